@@ -1,11 +1,9 @@
 -- Which status there is where nothing fails, and where something failed.
 use Rattle.std.proofs.Common.{◌≡◌, ◌≢◌, ℕ, ◌+◌, ◌<◌, ◌≤◌, List, [], ◌++◌, length, get_or, Option, Some, None, Ok, Err, refl, sym, ap, ◌∙◌, subst, arith, inl, inr, length-append}
 use Rattle.std.specs.Prelude.{Result, ◌⊎◌}
-use Rattle.call_rules.specs.Grammar.{CallsOf, number}
-use Rattle.call_rules.specs.declared.calls.Call.{Call}
+use Rattle.call_rules.specs.Grammar.{number}
 use Rattle.call_rules.proofs.NumberLemmas.{read_front, read_number}
-use Rattle.call_rules.proofs.ReadingLemmas.{same_reading}
-use Rattle.arena_calls.specs.Ends.{Ends, GenEnds, EndsBy, AsksGen, Outside, ReadsWhole, IsFaultless, status_of}
+use Rattle.arena_calls.specs.Ends.{Outside, FaultsBy, ReadsWhole, Word, EndsAs, GenEnds, EndsBy, AsksGen, IsFaultless, status_of}
 use Rattle.arena_calls.specs.ReadAll.{limit, TakesFront, TakesWhole}
 use Rattle.arena_calls.specs.declared.status.Status.{Status}
 use Rattle.arena_calls.specs.declared.status.Status.TheVariants.{Done, Usage, BadLine, OutOfMemory, ReadFault, WriteFault, InputTooLong}
@@ -27,108 +25,84 @@ too_many (Some all) (Some left) bytes h e =
     let long = h.2 in
     omega arith
 
--- what a status without a fault says of the bytes
-abbrev Says : Status → List ℕ → Type 0
-Says Done bytes = (length bytes ≤ limit) × (calls : List Call) × CallsOf bytes (Ok calls)
-Says (BadLine n) bytes = (length bytes ≤ limit) × CallsOf bytes (Err n)
-Says InputTooLong bytes = limit < length bytes
-Says OutOfMemory bytes = Unit {0}
-Says Usage bytes = ⊥
-Says ReadFault bytes = ⊥
-Says WriteFault bytes = ⊥
+-- a text has one reading
+abbrev pub OneReading : {Read : Type 0} → (List ℕ → Result Read ℕ → Type 0) → Type 0
+OneReading reads = (bytes : List ℕ) (r s : Result _ ℕ) → reads bytes r → reads bytes s → r ≡ s
 
-says : (status : Status) (old new : Outside) (bytes : List ℕ) → Ends status old new → IsFaultless old new → old.left ≡ Some bytes
-    → Says status bytes
-says Done old new bytes ends whole is =
-    let read = ends.1.1 in
-    subst (Says Done) (same_bytes old new read.bytes bytes read.whole is) (read.whole.small, ends.1.0, read.lines)
-says Usage old new bytes ends whole is = ends
-says (BadLine n) old new bytes ends whole is =
-    let read = ends.2 in
-    subst (Says (BadLine n)) (same_bytes old new read.0 bytes read.1 is) (read.1.small, read.2)
-says OutOfMemory old new bytes ends whole is = tt
-says ReadFault old new bytes ends whole is = whole.reads ends.0.reads
-says WriteFault old new bytes ends whole is = whole.writes ends.0.writes
-says InputTooLong old new bytes ends whole is = too_many old.left new.left bytes ends.2 is
+module _ {Read : Type 0} (word : Word Read) (old new : Outside) where
+  -- these bytes were read, and those of the input are these
+  same_status : OneReading word.reads → (read bytes : List ℕ) (r s : Result Read ℕ) → ReadsWhole old new read → old.left ≡ Some bytes
+      → word.reads read r → word.reads bytes s → status_of r ≡ status_of s
+  same_status one read bytes r s whole is a b =
+      ap status_of (one bytes r s (subst (λ (text : List ℕ). word.reads text r) (same_bytes old new read bytes whole is) a) b)
 
-within_status : (status : Status) (bytes : List ℕ) (read : Result (List Call) ℕ) → Says status bytes → length bytes ≤ limit
-    → CallsOf bytes read → (status ≡ status_of read) ⊎ (status ≡ OutOfMemory)
-within_status Done bytes read s small lines = inl (ap status_of (same_reading bytes (Ok s.1) read s.2 lines))
-within_status (BadLine n) bytes read s small lines = inl (ap status_of (same_reading bytes (Err n) read s.1 lines))
-within_status OutOfMemory bytes read s small lines = inr refl
-within_status InputTooLong bytes read s small lines = absurd (omega (arith, s))
-within_status Usage bytes read s small lines = absurd s
-within_status ReadFault bytes read s small lines = absurd s
-within_status WriteFault bytes read s small lines = absurd s
+  pub within : OneReading word.reads → (status : Status) (bytes : List ℕ) (read : Result Read ℕ) → EndsAs word status old new
+      → IsFaultless old new → old.left ≡ Some bytes → length bytes ≤ limit → word.reads bytes read
+      → (status ≡ status_of read) ⊎ (status ≡ OutOfMemory)
+  within one Done bytes read ends whole is small lines =
+      let run = ends.1.1 in inl (same_status one run.bytes bytes (Ok ends.1.0) read run.whole is run.lines lines)
+  within one (BadLine n) bytes read ends whole is small lines =
+      let line = ends.1.1 in inl (same_status one line.0 bytes (Err n) read line.1 is line.2 lines)
+  within one OutOfMemory bytes read ends whole is small lines = inr refl
+  within one InputTooLong bytes read ends whole is small lines =
+      absurd (omega (arith, too_many old.left new.left bytes ends.1.1 is))
+  within one Usage bytes read ends whole is small lines = absurd ends.1
+  within one ReadFault bytes read ends whole is small lines = absurd (whole.reads ends.0.reads)
+  within one WriteFault bytes read ends whole is small lines = absurd (whole.writes ends.0.writes)
 
-over_status : (status : Status) (bytes : List ℕ) → Says status bytes → limit < length bytes → (status ≡ InputTooLong)
-    ⊎ (status ≡ OutOfMemory)
-over_status Done bytes s long = absurd (omega (arith, s.0))
-over_status (BadLine n) bytes s long = absurd (omega (arith, s.0))
-over_status OutOfMemory bytes s long = inr refl
-over_status InputTooLong bytes s long = inl refl
-over_status Usage bytes s long = absurd s
-over_status ReadFault bytes s long = absurd s
-over_status WriteFault bytes s long = absurd s
+  -- what was read whole wasn't too long
+  not_over : {A : Type 0} (read bytes : List ℕ) → ReadsWhole old new read → old.left ≡ Some bytes → limit < length bytes → A
+  not_over read bytes whole is long = absurd (omega (arith, whole.small, ap length (same_bytes old new read bytes whole is)))
 
-pub within : (status : Status) (old new : Outside) (bytes : List ℕ) (read : Result (List Call) ℕ) → Ends status old new
-    → IsFaultless old new → old.left ≡ Some bytes → length bytes ≤ limit → CallsOf bytes read → (status ≡ status_of read)
-    ⊎ (status ≡ OutOfMemory)
-within status old new bytes read ends whole is = within_status status bytes read (says status old new bytes ends whole is)
+  pub over : (status : Status) (bytes : List ℕ) → EndsAs word status old new → IsFaultless old new → old.left ≡ Some bytes
+      → limit < length bytes → (status ≡ InputTooLong) ⊎ (status ≡ OutOfMemory)
+  over Done bytes ends whole is long = let run = ends.1.1 in not_over run.bytes bytes run.whole is long
+  over (BadLine n) bytes ends whole is long = let line = ends.1.1 in not_over line.0 bytes line.1 is long
+  over OutOfMemory bytes ends whole is long = inr refl
+  over InputTooLong bytes ends whole is long = inl refl
+  over Usage bytes ends whole is long = absurd ends.1
+  over ReadFault bytes ends whole is long = absurd (whole.reads ends.0.reads)
+  over WriteFault bytes ends whole is long = absurd (whole.writes ends.0.writes)
 
-pub over : (status : Status) (old new : Outside) (bytes : List ℕ) → Ends status old new → IsFaultless old new → old.left ≡ Some bytes
-    → limit < length bytes → (status ≡ InputTooLong) ⊎ (status ≡ OutOfMemory)
-over status old new bytes ends whole is = over_status status bytes (says status old new bytes ends whole is)
+module _ (old new : Outside) where
+  pub told_reads : (status : Status) → FaultsBy status old new → new.read_faults ≢ old.read_faults → status ≡ ReadFault
+  told_reads ReadFault faults rose = refl
+  told_reads Done faults rose = absurd (rose faults.reads)
+  told_reads Usage faults rose = absurd (rose faults.reads)
+  told_reads (BadLine n) faults rose = absurd (rose faults.reads)
+  told_reads OutOfMemory faults rose = absurd (rose faults.reads)
+  told_reads WriteFault faults rose = absurd (rose faults.reads)
+  told_reads InputTooLong faults rose = absurd (rose faults.reads)
 
-pub told_reads : (status : Status) (old new : Outside) → Ends status old new → new.read_faults ≢ old.read_faults → status ≡ ReadFault
-told_reads ReadFault old new ends rose = refl
-told_reads Usage old new ends rose = absurd ends
-told_reads Done old new ends rose = absurd (rose ends.0.reads)
-told_reads (BadLine n) old new ends rose = absurd (rose ends.0.reads)
-told_reads OutOfMemory old new ends rose = absurd (rose ends.0.reads)
-told_reads WriteFault old new ends rose = absurd (rose ends.0.reads)
-told_reads InputTooLong old new ends rose = absurd (rose ends.0.reads)
+  pub told_writes : (status : Status) → FaultsBy status old new → new.write_faults ≢ old.write_faults → status ≡ WriteFault
+  told_writes WriteFault faults rose = refl
+  told_writes Done faults rose = absurd (rose faults.writes)
+  told_writes Usage faults rose = absurd (rose faults.writes)
+  told_writes (BadLine n) faults rose = absurd (rose faults.writes)
+  told_writes OutOfMemory faults rose = absurd (rose faults.writes)
+  told_writes ReadFault faults rose = absurd (rose faults.writes)
+  told_writes InputTooLong faults rose = absurd (rose faults.writes)
 
-pub told_writes : (status : Status) (old new : Outside) → Ends status old new → new.write_faults ≢ old.write_faults → status ≡ WriteFault
-told_writes WriteFault old new ends rose = refl
-told_writes Usage old new ends rose = absurd ends
-told_writes Done old new ends rose = absurd (rose ends.0.writes)
-told_writes (BadLine n) old new ends rose = absurd (rose ends.0.writes)
-told_writes OutOfMemory old new ends rose = absurd (rose ends.0.writes)
-told_writes ReadFault old new ends rose = absurd (rose ends.0.writes)
-told_writes InputTooLong old new ends rose = absurd (rose ends.0.writes)
+  -- ---- A run of calls from a number
 
--- ---- A run of calls from a number
+  pub gen_status : (start count : ℕ) (status : Status) → GenEnds start count status old new → IsFaultless old new
+      → (status ≡ Done) ⊎ (status ≡ OutOfMemory)
+  gen_status start count Done ends whole = inl refl
+  gen_status start count OutOfMemory ends whole = inr refl
+  gen_status start count WriteFault ends whole = absurd (whole.writes ends.0.writes)
+  gen_status start count Usage ends whole = absurd ends.2
+  gen_status start count (BadLine n) ends whole = absurd ends.2
+  gen_status start count ReadFault ends whole = absurd ends.2
+  gen_status start count InputTooLong ends whole = absurd ends.2
 
-pub gen_status : (start count : ℕ) (status : Status) (old new : Outside) → GenEnds start count status old new → IsFaultless old new
-    → (status ≡ Done) ⊎ (status ≡ OutOfMemory)
-gen_status start count Done old new ends whole = inl refl
-gen_status start count OutOfMemory old new ends whole = inr refl
-gen_status start count WriteFault old new ends whole = absurd (whole.writes ends.0.writes)
-gen_status start count Usage old new ends whole = absurd ends
-gen_status start count (BadLine n) old new ends whole = absurd ends
-gen_status start count ReadFault old new ends whole = absurd ends
-gen_status start count InputTooLong old new ends whole = absurd ends
-
-pub gen_told_reads : (start count : ℕ) (status : Status) (old new : Outside) → GenEnds start count status old new
-    → new.read_faults ≡ old.read_faults
-gen_told_reads start count Done old new ends = ends.0.reads
-gen_told_reads start count OutOfMemory old new ends = ends.0.reads
-gen_told_reads start count WriteFault old new ends = ends.0.reads
-gen_told_reads start count Usage old new ends = absurd ends
-gen_told_reads start count (BadLine n) old new ends = absurd ends
-gen_told_reads start count ReadFault old new ends = absurd ends
-gen_told_reads start count InputTooLong old new ends = absurd ends
-
-pub gen_told_writes : (start count : ℕ) (status : Status) (old new : Outside) → GenEnds start count status old new
-    → new.write_faults ≢ old.write_faults → status ≡ WriteFault
-gen_told_writes start count Done old new ends rose = absurd (rose ends.0.writes)
-gen_told_writes start count OutOfMemory old new ends rose = absurd (rose ends.0.writes)
-gen_told_writes start count WriteFault old new ends rose = refl
-gen_told_writes start count Usage old new ends rose = absurd ends
-gen_told_writes start count (BadLine n) old new ends rose = absurd ends
-gen_told_writes start count ReadFault old new ends rose = absurd ends
-gen_told_writes start count InputTooLong old new ends rose = absurd ends
+  pub gen_reads : (start count : ℕ) (status : Status) → GenEnds start count status old new → new.read_faults ≡ old.read_faults
+  gen_reads start count Done ends = ends.0.reads
+  gen_reads start count OutOfMemory ends = ends.0.reads
+  gen_reads start count WriteFault ends = ends.0.reads
+  gen_reads start count Usage ends = ends.0.reads
+  gen_reads start count (BadLine n) ends = ends.0.reads
+  gen_reads start count ReadFault ends = absurd ends.2
+  gen_reads start count InputTooLong ends = ends.0.reads
 
 same_number : (m n : ℕ) → number m ≡ number n → m ≡ n
 same_number m n e =

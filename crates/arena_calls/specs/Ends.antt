@@ -50,6 +50,12 @@ pub record HasWriteFault (old new : Outside) : Type 0 where
   pub reads : new.read_faults ≡ old.read_faults
   pub writes : new.write_faults ≡ counted old.write_faults 1
 
+-- no fault but the one that the status reports
+abbrev pub FaultsBy : Status → Outside → Outside → Type 0
+FaultsBy ReadFault = HasReadFault
+FaultsBy WriteFault = HasWriteFault
+FaultsBy status = HasNoFault
+
 -- nothing was run or written
 pub record IsUntouched (old new : Outside) : Type 0 where
   pub arena : new.arena ≡ old.arena
@@ -60,11 +66,11 @@ pub record ReadsWhole (old new : Outside) (bytes : List ℕ) : Type 0 where
   pub told : TakesWhole old.left new.left bytes
   pub small : length bytes ≤ limit
 
--- the whole input was read, and its lines are these calls
-pub record ReadsCalls (old new : Outside) (calls : List Call) : Type 0 where
+-- the whole input was read, and its lines are this
+pub record ReadsAs {Read : Type 0} (reads : List ℕ → Result Read ℕ → Type 0) (old new : Outside) (read : Read) : Type 0 where
   pub bytes : List ℕ
   pub whole : ReadsWhole old new bytes
-  pub lines : CallsOf bytes (Ok calls)
+  pub lines : reads bytes (Ok read)
 
 -- whether a text was written whole, or a part of it
 abbrev pub IsWritten : Type 1
@@ -75,6 +81,40 @@ abbrev pub Prints : List ℕ → Status → Option (List ℕ) → ℕ → Option
 Prints text Done old before new after = Writes old new text × (after ≡ before)
 Prints text WriteFault old before new after = WritesPart old new text × (after ≡ counted before 1)
 Prints text _ old before new after = ⊥
+
+-- ---- How a word ends that reads a whole input, runs it, and prints
+
+-- What the word reads bytes as, or by the number of which line it refuses them; that what was read was run, and how
+-- much of the text of that was written; that nothing was run; and what is left where memory ran out.
+pub record Word (Read : Type 0) : Type 1 where
+  pub reads : List ℕ → Result Read ℕ → Type 0
+  pub ran : Outside → Outside → Read → IsWritten → Type 0
+  pub unrun : Outside → Outside → Type 0
+  pub short : Outside → Outside → Type 0
+
+-- what each status says of all but the faults
+abbrev pub LeavesAs : {Read : Type 0} → Word Read → Status → Outside → Outside → Type 0
+LeavesAs word Done old new = (read : _) × ReadsAs word.reads old new read × word.ran old new read Writes
+LeavesAs word Usage old new = ⊥
+LeavesAs word (BadLine n) old new = word.unrun old new × ((bytes : List ℕ) × ReadsWhole old new bytes × word.reads bytes (Err n))
+LeavesAs word OutOfMemory old new = word.short old new
+LeavesAs word ReadFault old new = word.unrun old new × TakesFront old.left new.left (λ n. n ≤ limit)
+LeavesAs word WriteFault old new = (read : _) × ReadsAs word.reads old new read × word.ran old new read WritesPart
+LeavesAs word InputTooLong old new = word.unrun old new × TakesFront old.left new.left (λ n. n ≡ limit + 1)
+
+abbrev pub EndsAs : {Read : Type 0} → Word Read → Status → Outside → Outside → Type 0
+EndsAs word status old new = FaultsBy status old new × LeavesAs word status old new
+
+-- the status for bytes that have this reading
+abbrev pub status_of : {Read : Type 0} → Result Read ℕ → Status
+status_of (Ok read) = Done
+status_of (Err n) = BadLine n
+
+-- ---- A run of the input's lines
+
+-- the lines are these calls
+abbrev pub ReadsCalls : Outside → Outside → List Call → Type 0
+ReadsCalls = ReadsAs CallsOf
 
 -- what is written of a run, by its replies and the state after it
 abbrev pub Told : Type 0
@@ -92,8 +132,6 @@ pub record StopsIn (old new : Outside) (calls : List Call) : Type 0 where
   pub done : ℕ
   pub runs : RunsFirst old.arena new.arena calls done
   pub written : new.written ≡ old.written
-
--- ---- A run of the input's lines
 
 -- a line for each reply
 abbrev pub reply_lines : Told
@@ -113,28 +151,22 @@ pub record StopsBefore (old new : Outside) : Type 0 where
   pub untouched : IsUntouched old new
   pub front : TakesFront old.left new.left (λ n. n ≤ limit)
 
--- Nothing is written. Where memory runs out during the run or after it, the first calls were run, possibly none.
-abbrev pub EndsUnwritten : Status → Outside → Outside → Type 0
-EndsUnwritten Done old new = ⊥
-EndsUnwritten Usage old new = ⊥
-EndsUnwritten (BadLine n) old new =
-    HasNoFault old new × IsUntouched old new
-    × ((bytes : List ℕ) × ReadsWhole old new bytes × CallsOf bytes (Err n))
-EndsUnwritten OutOfMemory old new =
-    HasNoFault old new
-    × (StopsBefore old new ⊎ ((calls : List Call) × ReadsCalls old new calls × StopsIn old new calls))
-EndsUnwritten ReadFault old new =
-    HasReadFault old new × IsUntouched old new × TakesFront old.left new.left (λ n. n ≤ limit)
-EndsUnwritten WriteFault old new = ⊥
-EndsUnwritten InputTooLong old new =
-    HasNoFault old new × IsUntouched old new × TakesFront old.left new.left (λ n. n ≡ limit + 1)
+-- A run of lines, of which this is written. Where memory runs out during the run or after it, the first calls were run,
+-- possibly none.
+abbrev pub calls_word : (Outside → Outside → List Call → IsWritten → Type 0) → Word (List Call)
+calls_word Ran = record {
+  reads = CallsOf;
+  ran = Ran;
+  unrun = IsUntouched;
+  short = λ old new. StopsBefore old new ⊎ ((calls : List Call) × ReadsCalls old new calls × StopsIn old new calls);
+}
 
--- A run ends, where this is what is written of it: the calls were run, and that was written whole or in part.
 abbrev pub EndsWith : (Outside → Outside → List Call → IsWritten → Type 0) → Status → Outside → Outside → Type 0
-EndsWith Ran Done old new = HasNoFault old new × ((calls : List Call) × ReadsCalls old new calls × Ran old new calls Writes)
-EndsWith Ran WriteFault old new =
-    HasWriteFault old new × ((calls : List Call) × ReadsCalls old new calls × Ran old new calls WritesPart)
-EndsWith Ran status old new = EndsUnwritten status old new
+EndsWith Ran = EndsAs (calls_word Ran)
+
+-- nothing is written, so that the run can't end as one that ran all calls
+abbrev pub EndsUnwritten : Status → Outside → Outside → Type 0
+EndsUnwritten = EndsWith (λ old new calls Is. ⊥)
 
 -- the text of the replies is written
 abbrev pub Ends : Status → Outside → Outside → Type 0
@@ -147,16 +179,14 @@ abbrev pub summary_lines : Told
 summary_lines replies state = summary_text (summary_of replies state)
 
 -- The input isn't read, so there is no other status.
+abbrev pub GenLeaves : ℕ → ℕ → Status → Outside → Outside → Type 0
+GenLeaves start count Done old new = RunsTo old new (gen_calls start count) summary_lines Writes
+GenLeaves start count OutOfMemory old new = IsUntouched old new ⊎ StopsIn old new (gen_calls start count)
+GenLeaves start count WriteFault old new = RunsTo old new (gen_calls start count) summary_lines WritesPart
+GenLeaves start count status old new = ⊥
+
 abbrev pub GenEnds : ℕ → ℕ → Status → Outside → Outside → Type 0
-GenEnds start count Done old new =
-    HasNoFault old new × (new.left ≡ old.left) × RunsTo old new (gen_calls start count) summary_lines Writes
-GenEnds start count OutOfMemory old new =
-    HasNoFault old new × (new.left ≡ old.left)
-    × (IsUntouched old new ⊎ StopsIn old new (gen_calls start count))
-GenEnds start count WriteFault old new =
-    HasWriteFault old new × (new.left ≡ old.left)
-    × RunsTo old new (gen_calls start count) summary_lines WritesPart
-GenEnds start count status old new = ⊥
+GenEnds start count status old new = FaultsBy status old new × (new.left ≡ old.left) × GenLeaves start count status old new
 
 -- ---- What the words ask for
 
@@ -182,11 +212,6 @@ pub record EndsBy (words : List (List ℕ)) (status : Status) (old new : Outside
 pub record IsFaultless (old new : Outside) : Type 0 where
   pub reads : new.read_faults ≢ counted old.read_faults 1
   pub writes : new.write_faults ≢ counted old.write_faults 1
-
--- the status for bytes that have this reading
-abbrev pub status_of : Result (List Call) ℕ → Status
-status_of (Ok calls) = Done
-status_of (Err n) = BadLine n
 
 -- the exit status
 abbrev pub code_of : Status → ℕ

@@ -2,7 +2,7 @@
 ghost use Rattle.std.specs.Prelude.{◌≡◌, ℕ, ◌+◌, ◌*◌, ◌-◌, ◌/◌, ◌++◌, ◌∷◌, [], ◌≤◌, false, IsOk, OnOk, length, codes, vec_len, vec_capacity};
 ghost use Rattle.call_rules.specs.Grammar.{fields};
 ghost use Rattle.call_rules.specs.Replies.{reply_line, text_of};
-ghost use Rattle.arena_chunks.specs.Replies.{has_bytes};
+ghost use Rattle.arena_chunks.specs.Runs.Replies.{has_bytes};
 
 use arena_chunks::Replies;
 use arena_rules::OutOfMemory;

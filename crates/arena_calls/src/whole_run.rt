@@ -2,7 +2,7 @@
 ghost use Rattle.std.specs.Prelude.{◌≡◌, ℕ, List, Option, IfOk, IfErr, OnOk};
 ghost use Rattle.call_rules.specs.declared.calls.Reply.{Reply};
 ghost use Rattle.arena_chunks.specs.Source.{view};
-ghost use Rattle.arena_chunks.specs.Replies.{TakesMore};
+ghost use Rattle.arena_chunks.specs.Runs.Replies.{TakesMore};
 ghost use Rattle.arena_calls.specs.Ends.{Ends, EndsBy, EndsUnwritten, RunsInput, outside};
 
 use crate::arguments::{Command, asked_for};

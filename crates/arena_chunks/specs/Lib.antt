@@ -18,10 +18,4 @@ pub use Rattle.arena_core.specs.Walks
 pub use Rattle.arena_core.specs.BlockLends
 pub mod Asking
 pub mod Runs
-pub mod Replies
-pub mod PlaceCode
-pub mod Marks
-pub mod Names
-pub mod Serving
-pub mod Running
 pub mod AllocatorLends

@@ -26,7 +26,7 @@ impl CloneIn for BitSet {
         to: &mut Allocator<D>,
     ) -> Grown<Self> {
         // For the proof: the arena's state is valid, and the words have a layout.
-        let _ = from.arena(to).min_align();
+        from.arena(to).known();
         let words = self.words.block;
         let block = place_copy(from, words, to, words.size, 8)?;
         Ok(BitSet {

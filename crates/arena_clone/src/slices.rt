@@ -29,7 +29,7 @@ impl<T: CloneIn + Item> CloneIn for BoxSlice<T> {
         to: &mut Allocator<D>,
     ) -> Grown<Self> {
         // For the proof: the arena's state is valid, and the slice has a layout.
-        let _ = from.arena(to).min_align();
+        from.arena(to).known();
         let target = place(to, self.length * T::SIZE, T::ALIGN)?;
         let row = Row {
             source: self.block,

@@ -49,7 +49,7 @@ pub(crate) fn copy_table<
         (O.there from.now to.old.memory) to.old to.new map.now result }
 {
     // For the proof: the arena's state is valid, and the table has a layout.
-    let _ = from.arena(to).min_align();
+    from.arena(to).known();
     let table = map.table.block;
     let block = place_copy(from, table, to, table.size, table.align)?;
     Ok(HashMap {

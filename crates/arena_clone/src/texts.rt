@@ -25,7 +25,7 @@ impl CloneIn for Str {
         to: &mut Allocator<D>,
     ) -> Grown<Self> {
         // For the proof: the arena's state is valid, and the text has a layout.
-        let _ = from.arena(to).min_align();
+        from.arena(to).known();
         let block = place_copy(from, self.block, to, self.block.size, 1)?;
         Ok(Str { block })
     }

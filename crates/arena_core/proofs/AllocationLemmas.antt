@@ -131,7 +131,7 @@ block_placed old new before after size align k p b valid layout placing asked is
       };
     })
 
--- The same for a block at the cursor, where an allocation leaves it.
+-- A block that was placed at the cursor, where an allocation leaves it, as the result of a call.
 pub placed_at_cursor : (old new : Memory) (before after : Source) (size align k p : ℕ) → IsValid old.state → IsTrue (is_layout size align)
     → IsPlacing old new size align k p
     → IsAsked before after k (alloc_requests old.state size align k)

@@ -13,7 +13,6 @@ pub mod LentLemmas
 pub mod CursorMoveLemmas
 pub mod ResizedLemmas
 pub mod CopiedLemmas
-pub mod ResizeSteps
 pub mod FrameRules
 pub mod BlockCallLemmas
 pub mod CreatedLemmas

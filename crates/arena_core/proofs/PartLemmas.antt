@@ -5,7 +5,7 @@ use Rattle.std.specs.List.{list_any, All, AllByRecursion}
 use Rattle.std.specs.List.Sorted.{IsNonDecreasingBy}
 use Rattle.std.proofs.lemmas.Bool.{cases_Bool, or_cases}
 use Rattle.std.proofs.lemmas.Bool.Decides.{nat_tests}
-use Rattle.std.proofs.lemmas.List.{reverse-reverse, set_at}
+use Rattle.std.proofs.lemmas.List.{reverse-reverse, set_at, get_or_default}
 use Rattle.std.proofs.lemmas.List.Elements.{All-cons, All-head, All-tail, All-from_recursion, recursion_from_All}
 use Rattle.std.proofs.Math.Seq.{get_or-append_seam}
 use Rattle.arena_rules.specs.State.{Chunk, IsValid, AreChunks, floor_of, is_used_by, is_range_used, start_of}
@@ -17,7 +17,7 @@ use Rattle.arena_store.specs.declared.chunk.StoredChunk.{StoredChunk}
 use Rattle.arena_core.specs.declared.arena.Arena.TheInside.{Inside}
 use Rattle.arena_store.proofs.TableLemmas.{chunks_in, bytes_in, table_rises, some_below, range_held, range_bytes, IsSplice, same_chunk, same_chunks, range_written}
 use Rattle.arena_core.proofs.StoredLemmas.{view_with, view_of, Stands, differs, start_stored, all_reversed, all_straight}
-use Rattle.arena_core.proofs.StoredListLemmas.{readable_part, all_among, all_replaced, reverse_split, last_within, last_is, above_end, get_or-same}
+use Rattle.arena_core.proofs.StoredListLemmas.{readable_part, all_among, all_replaced, reverse_split, last_within, last_is, above_end}
 
 -- ---- The chunk that has it
 
@@ -175,11 +175,8 @@ module _ (m : ℕ) (a : Inside m) (memory : Memory) where
     };
   }
     where
-      same : (xs : List StoredChunk) (k : ℕ) (d e : StoredChunk) → k < length xs → get_or xs k d ≡ get_or xs k e
-      same xs k d e less = get_or-same xs k d e less
-
       one : (c : StoredChunk) → c ≡ get_or a.older.items i c → chunk ≡ c
-      one c is = at ∙ same a.older.items i chunk c below ∙ sym is
+      one c is = at ∙ get_or_default a.older.items i chunk c below ∙ sym is
 
   pub found : (addr n i : ℕ) → IsRange addr n → addr < a.newest.base → IsLastBelow a.older.items addr i → IsFound addr n i
   found addr n i range below last =

@@ -3,7 +3,7 @@ use Rattle.std.proofs.Common.{◌≡◌, ℕ, zero, suc, ◌+◌, ◌-◌, ◌<�
 use Rattle.std.specs.Prelude.{◌==◌, nat_le}
 use Rattle.std.specs.List.{All}
 use Rattle.std.proofs.Math.Seq.{take-suc}
-use Rattle.std.proofs.lemmas.List.{reverse-append, length-reverse, take-append-drop}
+use Rattle.std.proofs.lemmas.List.{reverse-append, length-reverse, length-map, length-drop, take-append-drop, drop_at, drop-map, get_or_default}
 use Rattle.std.proofs.lemmas.List.Elements.{All-take}
 use Rattle.std.proofs.lemmas.Bool.Decides.{nat_tests}
 use Rattle.arena_rules.specs.State.{State, Chunk, AreChunks, IsValid, floor_of, start_of, top_of}
@@ -19,38 +19,20 @@ use Rattle.arena_store.specs.declared.chunk.StoredChunk.{StoredChunk}
 use Rattle.arena_core.specs.declared.arena.Arena.TheInside.{Inside}
 use Rattle.arena_store.specs.declared.block.Block.{Block}
 use Rattle.arena_core.proofs.WrittenLemmas.{bytes_same}
-use Rattle.arena_core.proofs.StoredListLemmas.{readable_part, get_or-same}
+use Rattle.arena_core.proofs.StoredListLemmas.{readable_part}
 use Rattle.arena_store.proofs.TableLemmas.{chunks_in}
 use Rattle.arena_core.proofs.StoredLemmas.{kind, view_with, view_of, Stands}
 
 -- ---- Lists
 
-map_drop : {X Y : Type 0} (f : X → Y) (k : ℕ) (xs : List X) → drop k (map f xs) ≡ map f (drop k xs)
-map_drop f zero xs = refl
-map_drop f (suc k) [] = refl
-map_drop f (suc k) (x ∷ xs) = map_drop f k xs
-
-map_length : {X Y : Type 0} (f : X → Y) (xs : List X) → length (map f xs) ≡ length xs
-map_length f [] = refl
-map_length f (x ∷ xs) = ap suc (map_length f xs)
-
-drop_front : {X : Type 0} (xs ys : List X) → drop (length xs) (xs ++ ys) ≡ ys
-drop_front [] ys = refl
-drop_front (x ∷ xs) ys = drop_front xs ys
-
 -- the last items of a reversed list are its first ones
 last_reversed : (xs : List StoredChunk) (n : ℕ) → n ≤ length xs → drop (length xs - n) (reverse xs) ≡ reverse (take n xs)
 last_reversed xs n within =
-    let rest : length (reverse (drop n xs)) ≡ length xs - n = length-reverse (drop n xs) ∙ length_drop n xs in
+    let rest : length (reverse (drop n xs)) ≡ length xs - n = length-reverse (drop n xs) ∙ length-drop n xs in
     ap (λ (l : List StoredChunk). drop (length xs - n) l) (ap reverse (sym (take-append-drop n xs))
     ∙ reverse-append (take n xs) (drop n xs))
     ∙ ap (λ (k : ℕ). drop k (reverse (drop n xs) ++ reverse (take n xs))) (sym rest)
-    ∙ drop_front (reverse (drop n xs)) (reverse (take n xs))
-  where
-    length_drop : (k : ℕ) (l : List StoredChunk) → length (drop k l) ≡ length l - k
-    length_drop zero l = omega arith
-    length_drop (suc k) [] = omega arith
-    length_drop (suc k) (x ∷ l) = omega (arith, length_drop k l)
+    ∙ drop_at (reverse (drop n xs)) (reverse (take n xs)) (length (reverse (drop n xs))) refl
 
 -- the first of all chunks, where the newest is one of the table
 first_of : (newest : StoredChunk) (items : List StoredChunk) (n : ℕ) (d : StoredChunk) → 0 < n → n ≤ length items
@@ -77,7 +59,7 @@ module _ (m : ℕ) (a : Inside m) (memory : Memory) where
     | inr chunk ↦
         let all : List StoredChunk = a.newest ∷ reverse a.older.items in
         let count : length memory.state.chunks ≡ suc (length a.older.items) = sym (ap (λ (w : Memory). length w.state.chunks) view)
-        ∙ rw chunk (map_length stored_chunk all ∙ ap suc (length-reverse a.older.items)) in
+        ∙ rw chunk (length-map all stored_chunk ∙ ap suc (length-reverse a.older.items)) in
         let fits : n ≤ length a.older.items = omega (arith, within, count, far count) in
         let split : drop (length all - n) all ≡ newest ∷ reverse older =
         first_of a.newest a.older.items n newest some fits
@@ -85,11 +67,11 @@ module _ (m : ℕ) (a : Inside m) (memory : Memory) where
         let state : IsValid (view_of m a).state = stands.valid in
         let first = first_valid n (view_of m a).state state (λ none. absurd (omega (arith, some, none))) in
         let chunks : first_chunks n (view_of m a).state.chunks ≡ chunks_in (newest ∷ reverse older) =
-        rw chunk (ap (λ (k : ℕ). drop (k - n) (map stored_chunk all)) (map_length stored_chunk all)
-        ∙ map_drop stored_chunk (length all - n) all ∙ ap (map stored_chunk) split) in
+        rw chunk (ap (λ (k : ℕ). drop (k - n) (map stored_chunk all)) (length-map all stored_chunk)
+        ∙ drop-map stored_chunk (length all - n) all ∙ ap (map stored_chunk) split) in
         let lists : first_bytes n (view_of m a).bytes ≡ map stored_bytes (newest ∷ reverse older) =
-        rw chunk (ap (λ (k : ℕ). drop (k - n) (map stored_bytes all)) (map_length stored_bytes all)
-        ∙ map_drop stored_bytes (length all - n) all ∙ ap (map stored_bytes) split) in
+        rw chunk (ap (λ (k : ℕ). drop (k - n) (map stored_bytes all)) (length-map all stored_bytes)
+        ∙ drop-map stored_bytes (length all - n) all ∙ ap (map stored_bytes) split) in
         let fine : AreChunks m (chunks_in (newest ∷ reverse older)) = subst (AreChunks m) chunks first.chunks in
         let high : 4096 ≤ newest.base = omega (arith, fine.1, floor_least m (chunks_in (reverse older)) fine.2) in
         let test : (newest.base == 16) ≡ false = grind (arith, nat_tests) in
@@ -129,9 +111,9 @@ module _ (m : ℕ) (a : Inside m) (memory : Memory) where
         | inl none ↦ absurd (omega (arith, some, within, ap (λ (w : Memory). length w.state.chunks) view, empty none.0))
         | inr chunk ↦
             let count : length memory.state.chunks ≡ suc (length a.older.items) = sym (ap (λ (w : Memory). length w.state.chunks) view)
-            ∙ rw chunk (map_length stored_chunk (a.newest ∷ reverse a.older.items) ∙ ap suc (length-reverse a.older.items)) in
+            ∙ rw chunk (length-map (a.newest ∷ reverse a.older.items) stored_chunk ∙ ap suc (length-reverse a.older.items)) in
             let first : IsFirst n c older = first_kept n c older stands view some within (λ same. absurd (omega (arith, same, count, fits)))
-            (λ d. get_or-same a.older.items (n - 1) a.newest d (omega (arith, some, fits))) refl in
+            (λ d. get_or_default a.older.items (n - 1) a.newest d (omega (arith, some, fits))) refl in
             let test : (c.base == 16) ≡ false = grind (arith, nat_tests, first.high) in
             record {
               start = ap (λ (w : Memory). start_of w.state.chunks) (sym first.view) ∙ rw test refl;
@@ -150,7 +132,7 @@ module _ (m : ℕ) (a : Inside m) (memory : Memory) where
         | inl none ↦ absurd (omega (arith, some, within, ap (λ (w : Memory). length w.state.chunks) view, empty none.0))
         | inr chunk ↦
             let count : length memory.state.chunks ≡ suc (length a.older.items) = sym (ap (λ (w : Memory). length w.state.chunks) view)
-            ∙ rw chunk (map_length stored_chunk (a.newest ∷ reverse a.older.items) ∙ ap suc (length-reverse a.older.items)) in
+            ∙ rw chunk (length-map (a.newest ∷ reverse a.older.items) stored_chunk ∙ ap suc (length-reverse a.older.items)) in
             let all : length memory.state.chunks - n ≡ 0 = omega (arith, count, far) in
             record {
               start = ap (λ (k : ℕ). start_of (drop k memory.state.chunks)) all ∙ ap (λ (w : Memory). start_of w.state.chunks) (sym view)
@@ -166,7 +148,7 @@ module _ (m : ℕ) (a : Inside m) (memory : Memory) where
   -- there is a list of bytes for each chunk
   pub lists_paired : view_of m a ≡ memory → length memory.bytes ≡ length memory.state.chunks
   lists_paired view = subst (λ (w : Memory). length w.bytes ≡ length w.state.chunks) view
-      (map_length stored_bytes (all_chunks a.newest a.older.items) ∙ sym (map_length stored_chunk (all_chunks a.newest a.older.items)))
+      (length-map (all_chunks a.newest a.older.items) stored_bytes ∙ sym (length-map (all_chunks a.newest a.older.items) stored_chunk))
 
 -- ---- What stays as it was
 

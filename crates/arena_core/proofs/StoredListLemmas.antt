@@ -1,5 +1,5 @@
 -- Ranges of readable blocks, and elements of lists that were looked up.
-use Rattle.std.proofs.Common.{◌≡◌, ℕ, zero, suc, ◌+◌, ◌<◌, ◌≤◌, ap, sym, refl, ◌∙◌, arith, IsTrue, List, [], ◌∷◌, ◌++◌, Bool, length, reverse, get_or, append_assoc}
+use Rattle.std.proofs.Common.{◌≡◌, ℕ, ◌+◌, ◌<◌, ◌≤◌, ap, sym, ◌∙◌, arith, IsTrue, List, [], ◌∷◌, ◌++◌, Bool, length, reverse, get_or, append_assoc}
 use Rattle.std.specs.Prelude.{◌==◌, ◌||◌, ◌&&◌}
 use Rattle.std.specs.List.{All, AllByRecursion}
 use Rattle.std.proofs.lemmas.Bool.Decides.{nat_tests}
@@ -66,9 +66,3 @@ pub above_end : (m p : ℕ) (newer : List StoredChunk) (chunk : StoredChunk) (re
 above_end m p [] chunk rest valid high = tt
 above_end m p (newest ∷ newer) chunk rest valid high =
     (omega (arith, floor_above m p newer chunk rest valid.2 high, valid.1), above_end m p newer chunk rest valid.2 high)
-
--- an item doesn't depend on the default
-pub get_or-same : {X : Type 0} (xs : List X) (i : ℕ) (d e : X) → i < length xs → get_or xs i d ≡ get_or xs i e
-get_or-same [] i d e below = absurd (omega arith)
-get_or-same (x ∷ xs) zero d e below = refl
-get_or-same (x ∷ xs) (suc i) d e below = get_or-same xs i d e (omega arith)

@@ -4,8 +4,8 @@ use Rattle.arena_rules.specs.State.{State, cursor_of}
 use Rattle.arena_store.specs.declared.block.Block.{Block}
 use Rattle.arena_store.specs.declared.block.ArenaErr.{ArenaErr}
 use Rattle.arena_store.specs.declared.block.ArenaErr.TheVariants.{AllocErr, OutOfMemory}
-use Rattle.arena_core.specs.declared.moves.SlowAnswer.{SlowAnswer}
-use Rattle.arena_core.specs.declared.moves.SlowAnswer.TheVariants.{AtCursor, NoChunk, NoMemory}
+use Rattle.arena_core.specs.declared.alloc.SlowAnswer.{SlowAnswer}
+use Rattle.arena_core.specs.declared.alloc.SlowAnswer.TheVariants.{AtCursor, NoChunk, NoMemory}
 
 -- A block; none, after this many requests were refused; or none, because memory other than the source's ran out.
 pub data Answer : Type 0 where

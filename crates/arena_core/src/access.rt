@@ -5,7 +5,7 @@ ghost use Rattle.std.specs.Borrow.{sem};
 use crate::arena::Arena;
 use arena_store::Block;
 use arena_store::chunk::{part_at, part_at_mut};
-use arena_store::edit::{Edit, Fill, Put, Shift, edit_at};
+use arena_store::edit::{Edit, Fill, Put, Shift, edit_at, put_at, shift_in};
 
 impl<const MIN_ALIGN: usize> Arena<MIN_ALIGN> {
     ghost use Rattle.arena_rules.specs.State.{is_range_used, start_of};
@@ -166,5 +166,42 @@ impl<const MIN_ALIGN: usize> Arena<MIN_ALIGN> {
             let i = self.older.find(from);
             self.older.copy_within(i, j, from, to, n);
         }
+    }
+
+    // Moves n bytes to an address in the newest chunk, in one memory move. The two ranges may overlap.
+    #[inline(always)]
+    pub(crate) fn move_bytes(&mut self, from: u64, to: u64, n: u64)
+        requires source { 0 < n → IsTrue (is_range_used self.old.state.chunks from n) }
+        requires target { 0 < n → IsTrue (is_range_used self.old.state.chunks to n) }
+        requires newest { start_of self.old.state.chunks ≤ to }
+        ensures state { self.new.state ≡ self.old.state }
+        ensures statistics { self.new.statistics ≡ self.old.statistics }
+        ensures bytes { Writes self.old self.new to (bytes_from (image self.old) from n) }
+    {
+        if n == 0 {
+            return;
+        }
+        if from >= self.newest.base {
+            self.move_in_newest(from, to, n);
+        } else {
+            let i = self.older.find(from);
+            put_at(&mut self.newest, to, self.older.part(i, from, n));
+        }
+    }
+
+    // Moves n bytes within the newest chunk, in one memory move. The two ranges may overlap.
+    #[inline(always)]
+    pub(crate) fn move_in_newest(&mut self, from: u64, to: u64, n: u64)
+        requires source { 0 < n → IsTrue (is_range_used self.old.state.chunks from n) }
+        requires target { 0 < n → IsTrue (is_range_used self.old.state.chunks to n) }
+        requires newest { (start_of self.old.state.chunks ≤ from) × (start_of self.old.state.chunks ≤ to) }
+        ensures state { self.new.state ≡ self.old.state }
+        ensures statistics { self.new.statistics ≡ self.old.statistics }
+        ensures bytes { Writes self.old self.new to (bytes_from (image self.old) from n) }
+    {
+        if n == 0 {
+            return;
+        }
+        shift_in(&mut self.newest, from, to, n);
     }
 }

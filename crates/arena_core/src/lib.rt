@@ -5,11 +5,11 @@
 #![tactic(auto)]
 
 mod access;
+mod alloc;
 mod arena;
 mod create;
 mod find;
 mod iter;
-mod moves;
 mod realloc;
 mod resize;
 mod rewind;

@@ -1,10 +1,9 @@
-// How an arena grows and shrinks blocks, and resets.
-ghost use Rattle.std.specs.Prelude.{◌≡◌, ℕ, ◌+◌, ◌-◌, ◌^◌, ◌%◌, nat_lt, ◌≤◌, ◌<◌, if◌then◌else◌, IsOk, IsTrue, Some, min, take};
+// How an arena grows and shrinks blocks.
+ghost use Rattle.std.specs.Prelude.{◌≡◌, ℕ, ◌+◌, ◌-◌, ◌^◌, ◌%◌, nat_lt, ◌≤◌, ◌<◌, if◌then◌else◌, IsOk, IsTrue, Some, min};
 
+use crate::alloc::SlowAnswer;
 use crate::arena::Arena;
-use crate::moves::SlowAnswer;
 use arena_place::{Layout, is_aligned_to, place, round_down_to, round_up_to_unchecked};
-use arena_store::edit::{put_at, shift_in};
 use arena_store::{ArenaErr, Block, ChunkSource};
 
 // Returns one less, unless the count is at its maximum.
@@ -19,14 +18,13 @@ impl<const MIN_ALIGN: usize> Arena<MIN_ALIGN> {
     ghost use Rattle.arena_rules.specs.Rounding.{up, is_layout};
     ghost use Rattle.arena_rules.specs.State.{IsValid, start_of, cursor_of, top_of, with_cursor, is_range_used};
     ghost use Rattle.arena_rules.specs.Search.{place};
-    ghost use Rattle.arena_rules.specs.Moves.{reset};
     ghost use Rattle.arena_rules.specs.Moves.Resizing.{Anew};
-    ghost use Rattle.arena_rules.specs.Statistics.{uncounted, one_reallocation};
+    ghost use Rattle.arena_rules.specs.Statistics.{one_reallocation};
     ghost use Rattle.arena_store.specs.Memory.{Memory, Writes, is_readable, image, bytes_from};
     ghost use Rattle.arena_store.specs.Source.{view};
     ghost use Rattle.arena_core.specs.Answers.{answer_of, OnCounted, at_cursor};
     ghost use Rattle.arena_core.specs.BlockCalls.{GrowsBlock, ShrinksBlock, ResizesAfter, growing_of, shrinking_of};
-    ghost use Rattle.arena_core.specs.Resizes.{IsResizedUnasked, replaced, NoneReadable};
+    ghost use Rattle.arena_core.specs.Resizes.{IsResizedUnasked, replaced};
 
     /// Shrinks a block, which may move it. Its first bytes are kept. If the alignment doesn't rise, this allocates
     /// nothing and can't fail.
@@ -73,26 +71,6 @@ impl<const MIN_ALIGN: usize> Arena<MIN_ALIGN> {
     {
         let (grown, _) = self.grow_counted(chunks, block, layout)?;
         Ok(grown)
-    }
-
-    /// Gives all blocks back, and frees all chunks but the newest. Blocks placed before are no longer readable, except
-    /// empty ones: the generation rises, up to 2^64 - 1. The statistics begin at 0 again. The bytes of the chunk that
-    /// is kept don't change.
-    #[inline]
-    pub fn reset(&mut self)
-        ensures memory { self.new ≡ record {
-          state = reset self.old.state;
-          statistics = uncounted;
-          bytes = take 1 self.old.bytes;
-        } }
-        ensures ends { NoneReadable self.new.state }
-        ensures valid { IsValid self.new.state }
-    {
-        self.newest.cursor = self.newest.base + self.newest.size();
-        self.older.clear();
-        self.generation = self.generation.saturating_add(1);
-        self.allocations = 0;
-        self.reallocations = 0;
     }
 
     /// Shrinks a block as `shrink` does, and also returns how many requests were refused.
@@ -314,42 +292,5 @@ impl<const MIN_ALIGN: usize> Arena<MIN_ALIGN> {
     {
         self.allocations = one_fewer(self.allocations);
         self.reallocations = self.reallocations.saturating_add(1);
-    }
-
-    // Moves n bytes to an address in the newest chunk, in one memory move. The two ranges may overlap.
-    #[inline(always)]
-    pub(crate) fn move_bytes(&mut self, from: u64, to: u64, n: u64)
-        requires source { 0 < n → IsTrue (is_range_used self.old.state.chunks from n) }
-        requires target { 0 < n → IsTrue (is_range_used self.old.state.chunks to n) }
-        requires newest { start_of self.old.state.chunks ≤ to }
-        ensures state { self.new.state ≡ self.old.state }
-        ensures statistics { self.new.statistics ≡ self.old.statistics }
-        ensures bytes { Writes self.old self.new to (bytes_from (image self.old) from n) }
-    {
-        if n == 0 {
-            return;
-        }
-        if from >= self.newest.base {
-            self.move_in_newest(from, to, n);
-        } else {
-            let i = self.older.find(from);
-            put_at(&mut self.newest, to, self.older.part(i, from, n));
-        }
-    }
-
-    // Moves n bytes within the newest chunk, in one memory move. The two ranges may overlap.
-    #[inline(always)]
-    fn move_in_newest(&mut self, from: u64, to: u64, n: u64)
-        requires source { 0 < n → IsTrue (is_range_used self.old.state.chunks from n) }
-        requires target { 0 < n → IsTrue (is_range_used self.old.state.chunks to n) }
-        requires newest { (start_of self.old.state.chunks ≤ from) × (start_of self.old.state.chunks ≤ to) }
-        ensures state { self.new.state ≡ self.old.state }
-        ensures statistics { self.new.statistics ≡ self.old.statistics }
-        ensures bytes { Writes self.old self.new to (bytes_from (image self.old) from n) }
-    {
-        if n == 0 {
-            return;
-        }
-        shift_in(&mut self.newest, from, to, n);
     }
 }

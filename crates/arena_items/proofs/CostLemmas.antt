@@ -26,9 +26,6 @@ use Rattle.arena_items.proofs.RoomLemmas.{zero_or_more}
 some_none : (p : ℕ) → Some p ≡ None → ⊥
 some_none p same = cc
 
-none_some : (p : ℕ) → None ≡ Some p → ⊥
-none_some p same = cc
-
 -- as many bytes are in use if no cursor moved
 pub same_used : (old new : View) → SamePlaces old new → used new ≡ used old
 same_used old new same = ap (λ (s : State). used_bytes s) same.state

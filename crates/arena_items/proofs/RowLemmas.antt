@@ -1,8 +1,9 @@
 -- Sequences of values, of which some are moved or replaced at once.
-use Rattle.std.proofs.Common.{◌≡◌, ℕ, zero, suc, ◌+◌, ◌-◌, ◌*◌, ◌≤◌, List, [], ◌∷◌, ◌++◌, Some, length, take, drop, sym, ap, ◌∙◌, arith, add-one, refl}
+use Rattle.std.proofs.Common.{◌≡◌, ℕ, ◌+◌, ◌-◌, ◌*◌, ◌≤◌, List, [], ◌∷◌, ◌++◌, Some, length, take, drop, sym, ap, ◌∙◌, arith, refl}
 use Rattle.std.specs.Prelude.{slice_get}
 use Rattle.std.proofs.lemmas.Grind.{common_steps}
-use Rattle.std.proofs.lemmas.List.{take_at, drop_at, length-drop}
+use Rattle.std.proofs.lemmas.List.{take_at, take-take, drop_at, drop_all, drop_more, length-drop}
+use Rattle.std.proofs.lemmas.Option.{slice_get_within, get_or_from_slice_get}
 use Rattle.std.proofs.Math.Nat.{add-mul, mul-le-mul_right}
 use Rattle.arena_rules.specs.Lists.{splice}
 use Rattle.arena_chunks.specs.Memory.{Memory, image, bytes_from}
@@ -16,10 +17,6 @@ use Rattle.arena_items.proofs.ElementLemmas.{length-elements, elements-append, e
 -- what comes after a part that is written stays
 spliced_rest : (at : ℕ) (bs ys : List ℕ) → at + length ys ≤ length bs → drop (at + length ys) (splice bs at ys) ≡ drop (at + length ys) bs
 spliced_rest at bs ys h = grind (arith, common_steps)
-
--- taking n twice is taking n once
-taken_twice : (n : ℕ) (xs : List ℕ) → take n (take n xs) ≡ take n xs
-taken_twice n xs = grind (arith, common_steps)
 
 module _ {T : Type 0} (size : ℕ) (dec : List ℕ → T) where
   -- The first values are a front of all,
@@ -37,7 +34,7 @@ module _ {T : Type 0} (size : ℕ) (dec : List ℕ → T) where
 
   -- They depend only on their own bytes.
   pub elements-front : (k : ℕ) (bs : List ℕ) → elements size dec k (take (k * size) bs) ≡ elements size dec k bs
-  elements-front k bs = elements-same size dec k (take (k * size) bs) bs (taken_twice (k * size) bs)
+  elements-front k bs = elements-same size dec k (take (k * size) bs) bs (take-take (k * size) (k * size) bs (omega arith))
 
   elements-before : (k : ℕ) (ys rest : List ℕ) → length ys ≡ k * size → elements size dec k (ys ++ rest) ≡ elements size dec k ys
   elements-before k ys rest long = sym (elements-front k (ys ++ rest)) ∙ ap (elements size dec k) (take_at ys rest (k * size) long)
@@ -106,22 +103,12 @@ module _ {T : Type 0} (size : ℕ) (dec : List ℕ → T) where
 
 -- nothing is left at the end
 pub drop_whole : {T : Type 0} (xs : List T) (i : ℕ) → i ≡ length xs → drop i xs ≡ []
-drop_whole [] zero e = refl
-drop_whole [] (suc i) e = refl
-drop_whole (x ∷ xs) zero e = absurd (omega arith)
-drop_whole (x ∷ xs) (suc i) e = drop_whole xs i (omega arith)
+drop_whole xs i e = drop_all i xs (omega (arith, e))
 
 -- the item at an index is the first of those from it on
 pub drop_item : {T : Type 0} (xs : List T) (i : ℕ) (x : T) → slice_get xs i ≡ Some x → drop i xs ≡ x ∷ drop (i + 1) xs
-drop_item xs i x e = rw add-one (here xs i x e)
-  where
-    same : {T : Type 0} (x y : T) → Some x ≡ Some y → x ≡ y
-    same x y e = cc
-
-    here : {T : Type 0} (xs : List T) (i : ℕ) (x : T) → slice_get xs i ≡ Some x → drop i xs ≡ x ∷ drop (suc i) xs
-    here [] i x e = cc
-    here (y ∷ xs) zero x e = ap (λ z. z ∷ xs) (same y x e)
-    here (y ∷ xs) (suc i) x e = here xs i x e
+drop_item xs i x e =
+    drop_more xs i x (slice_get_within xs i x e) ∙ ap (λ z. z ∷ drop (i + 1) xs) (get_or_from_slice_get xs i x x e)
 
 -- how many are left
 pub count_left : {T : Type 0} (size : ℕ) (dec : List ℕ → T) (n i : ℕ) (bs : List ℕ) (left : List T) → drop i (elements size dec n bs) ≡ left

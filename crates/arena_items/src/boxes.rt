@@ -63,7 +63,7 @@ impl<T: Item> Box<T> {
         T::decode(a.read(self.block))
     }
 
-    /// The same as `get`. The value stays where it is.
+    /// Returns the value, as `get` does. It stays where it is.
     #[inline]
     pub fn unbox<C: ChunkSource>(self, a: &Allocator<C>) -> T
         requires small { T.SIZE ≤ 2 ^ 24 }

@@ -104,7 +104,7 @@ pub trait ArenaItems: OverArena {
             T.Item (Self.view self.old) (Self.view self.new) n
             (λ list. (last : I) × Yields I.next_gives iter list last) result };
 
-    /// The same as `alloc`.
+    /// Places a value, as `alloc` does.
     ///
     /// # Errors
     ///
@@ -116,7 +116,7 @@ pub trait ArenaItems: OverArena {
         self.alloc(value)
     }
 
-    /// The same as `alloc_with`.
+    /// Places the value that a closure returns, as `alloc_with` does.
     ///
     /// # Errors
     ///
@@ -132,7 +132,7 @@ pub trait ArenaItems: OverArena {
         self.alloc_with(f)
     }
 
-    /// The same as `alloc_slice_copy`.
+    /// Places copies of values, as `alloc_slice_copy` does.
     ///
     /// # Errors
     ///
@@ -145,7 +145,7 @@ pub trait ArenaItems: OverArena {
         self.alloc_slice_copy(src)
     }
 
-    /// The same as `alloc_slice_fill_copy`.
+    /// Places `len` copies of a value, as `alloc_slice_fill_copy` does.
     ///
     /// # Errors
     ///

@@ -14,8 +14,8 @@ use Rattle.tree_rules.specs.Report.{NameSet, names_of, all_names, undefined}
 use Rattle.tree_rules.specs.declared.finding.Finding.{Finding}
 use Rattle.tree_rules.proofs.FindingLemmas.{undefined_both}
 use Rattle.tree_rules.proofs.NameLemmas.{name_text}
-use Rattle.arena_tree.specs.declared.node.Kind.TheVariants as kind
-use Rattle.arena_tree.specs.declared.node.Node.{Node}
+use Rattle.tree_nodes.specs.declared.node.Kind.TheVariants as kind
+use Rattle.tree_nodes.specs.declared.node.Node.{Node}
 use Rattle.arena_tree.specs.TreesAt.{node_item, kids_of, kids_in, IsOnly, ExprAt, ExprsAt}
 use Rattle.arena_tree.specs.StmtsAt.{StmtAt}
 use Rattle.arena_tree.specs.Counts.{below, nodes, below_stmt}

@@ -21,8 +21,8 @@ use Rattle.tree_rules.specs.Weights.{weight, weights}
 use Rattle.tree_rules.specs.Report.{NameSet, undefined, defined, walk_stmt}
 use Rattle.tree_rules.specs.declared.finding.Finding.{Finding}
 use Rattle.tree_rules.proofs.NameLemmas.{name_text}
-use Rattle.arena_tree.specs.declared.node.Kind.TheVariants as kind
-use Rattle.arena_tree.specs.declared.node.Node.{Node}
+use Rattle.tree_nodes.specs.declared.node.Kind.TheVariants as kind
+use Rattle.tree_nodes.specs.declared.node.Node.{Node}
 use Rattle.arena_tree.specs.Counts.{below_stmt, stmt_nodes}
 use Rattle.arena_tree.specs.TreesAt.{node_item, kids_of, kids_in}
 use Rattle.arena_tree.specs.TreeLaws.{list_same, list_held}

@@ -18,7 +18,7 @@ use Rattle.tree_rules.specs.Weights.{weight, weights}
 use Rattle.tree_rules.specs.Report.{NameSet, Walk, walk_stmt, walk}
 use Rattle.tree_rules.specs.declared.finding.Finding.{Finding}
 use Rattle.tree_rules.proofs.FindingLemmas.{walk_outer}
-use Rattle.arena_tree.specs.declared.node.Node.{Node}
+use Rattle.tree_nodes.specs.declared.node.Node.{Node}
 use Rattle.arena_tree.specs.TreesAt.{node_item}
 use Rattle.arena_tree.specs.StmtsAt.{StmtAt, StmtsAt}
 use Rattle.arena_tree.proofs.Layers.{list_len}

@@ -13,7 +13,7 @@ use Rattle.arena_tree.specs.Counts.{below, nodes, below_stmt, stmt_nodes}
 use Rattle.arena_tree.specs.Given.{IsTreeIn}
 use Rattle.arena_tree.specs.TreesAt.{node_item, ExprAt, ExprsAt}
 use Rattle.arena_tree.specs.StmtsAt.{StmtAt, StmtsAt, stmt_blocks, stmts_blocks}
-use Rattle.arena_tree.specs.declared.node.Node.{Node}
+use Rattle.tree_nodes.specs.declared.node.Node.{Node}
 use Rattle.arena_tree.specs.declared.tree.Tree.{Tree}
 
 -- The node represents an expression with at most `room` nodes below it; and so for nodes of expressions, and those of a

@@ -14,7 +14,7 @@ use Rattle.tree_rules.specs.Report.{NameSet, all_names, undefined, Walk, found_f
 use Rattle.tree_rules.specs.declared.finding.Finding.{Finding}
 use Rattle.arena_tree.specs.TreesAt.{node_item, ExprsAt}
 use Rattle.arena_tree.specs.StmtsAt.{StmtAt, StmtsAt}
-use Rattle.arena_tree.specs.declared.node.Node.{Node}
+use Rattle.tree_nodes.specs.declared.node.Node.{Node}
 use Rattle.arena_lint.specs.Knowing.{Knows}
 use Rattle.arena_lint.specs.Spending.{Takes}
 

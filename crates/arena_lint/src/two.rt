@@ -34,7 +34,7 @@ pub fn lint_two<C: ChunkSource>(
     used_by_giving_back();
     let one = lint_one(alloc, a, first);
     // Provides that the arena is valid, so that a reset keeps its bytes.
-    let _ = a.min_align();
+    a.known();
     a.reset();
     let two = lint_one(alloc, a, second);
     (one, two)

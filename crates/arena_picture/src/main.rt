@@ -1,14 +1,9 @@
 //! Reads calls on a bump arena from standard input, and prints a picture of the arena after them, as SVG.
 #![tactic(auto)]
 
-mod picture;
-mod program;
-mod shapes;
-mod text;
-
-use crate::program::run_picture;
 use arena_calls::{StdInput, StdOutput, program_chunks};
 use arena_chunks::Arena;
+use arena_drawing::run_picture;
 use std::io::{self, Lock};
 use std::process::ExitCode;
 

@@ -1,6 +1,6 @@
 // The pool under its lock.
 ghost use Rattle.std.specs.Prelude.{◌≡◌, ◌%◌, ◌≤◌, None, Some, IfOk, IsOk, IsTrue};
-ghost use Rattle.arena_pool.specs.Kinds.{is_fixed, IsUnused, IsWithin};
+ghost use Rattle.arena_pool.specs.Kinds.{is_fixed, HasLimit, HasRegions, IsUnused, IsWithin};
 ghost use Rattle.arena_pool.specs.Names.{IsBlankOf};
 ghost use Rattle.arena_pool.specs.declared.kind.PoolKind.TheVariants.{Standard, FixedSize};
 
@@ -24,6 +24,33 @@ pub struct AllocatorPool<K: ChunkMaker, L: PoolName> {
 }
 
 impl<K: ChunkMaker, L: PoolName> AllocatorPool<K, L> {
+    /// Creates a pool of this kind, with `count` arenas at first. The other three constructors are this one for a kind.
+    ///
+    /// # Errors
+    ///
+    /// Out of memory.
+    pub fn of_kind(
+        alloc: Global,
+        kind: PoolKind,
+        limit: Option<u64>,
+        count: u32,
+        maker: K,
+        blank: Blank,
+    ) -> Result<AllocatorPool<K, L>, OutOfMemory>
+    where
+        K: Drop,
+        requires blank { IsBlankOf L.name L.parts blank }
+        requires kind { L.kind ≡ kind }
+        requires limit { L.limit ≡ limit }
+        requires regions { HasRegions kind }
+        requires unlimited { HasLimit kind limit }
+    {
+        let stock = Stock::of_kind(alloc, kind, limit, count, maker)?;
+        Ok(AllocatorPool {
+            shared: Shared::over(stock, blank),
+        })
+    }
+
     /// Creates a pool of arenas that grow, with `thread_count` at first. One for each thread suffices; the pool makes
     /// more if none is stored.
     ///
@@ -42,10 +69,7 @@ impl<K: ChunkMaker, L: PoolName> AllocatorPool<K, L> {
         requires kind { L.kind ≡ Standard }
         requires limit { L.limit ≡ None }
     {
-        let stock = Stock::of_kind(alloc, PoolKind::Standard, None, thread_count, maker)?;
-        Ok(AllocatorPool {
-            shared: Shared::over(stock, blank),
-        })
+        AllocatorPool::of_kind(alloc, PoolKind::Standard, None, thread_count, maker, blank)
     }
 
     /// Creates a pool of arenas that grow, with a limit in bytes. A reset keeps only the newest chunk; an arena that
@@ -67,10 +91,8 @@ impl<K: ChunkMaker, L: PoolName> AllocatorPool<K, L> {
         requires kind { L.kind ≡ Standard }
         requires limit { L.limit ≡ Some limit }
     {
-        let stock = Stock::of_kind(alloc, PoolKind::Standard, Some(limit), thread_count, maker)?;
-        Ok(AllocatorPool {
-            shared: Shared::over(stock, blank),
-        })
+        let limit = Some(limit);
+        AllocatorPool::of_kind(alloc, PoolKind::Standard, limit, thread_count, maker, blank)
     }
 
     /// Creates a pool of `thread_count` arenas that don't grow, each over a region of `bytes` bytes. It makes no more.
@@ -93,16 +115,8 @@ impl<K: ChunkMaker, L: PoolName> AllocatorPool<K, L> {
         requires units { bytes % 16 ≡ 0 }
         requires room { 48 ≤ bytes }
     {
-        let stock = Stock::of_kind(
-            alloc,
-            PoolKind::FixedSize { bytes },
-            None,
-            thread_count,
-            maker,
-        )?;
-        Ok(AllocatorPool {
-            shared: Shared::over(stock, blank),
-        })
+        let kind = PoolKind::FixedSize { bytes };
+        AllocatorPool::of_kind(alloc, kind, None, thread_count, maker, blank)
     }
 
     /// Borrows an arena with no bytes in use. Waits while none is stored and no new one can be made, and while

@@ -5,44 +5,21 @@ use Rattle.script_rules.specs.declared.commands.Command.{Command}
 use Rattle.script_rules.specs.declared.outcome.Outcome.{Outcome}
 use Rattle.line_parts.proofs.ReadingLemmas.{number_same}
 use Rattle.arena_workers.specs.declared.served.Starved.{Starved}
-use Rattle.arena_calls.specs.Ends.{Outside, AsksCalls, AsksGen, EndsBy}
+use Rattle.arena_calls.specs.Ends.{Outside, EndsBy}
 use Rattle.arena_calls.specs.declared.status.Status.{Status}
 use Rattle.arena_program.specs.Words.{AsksScripts, AsksLint, lender_words}
-use Rattle.arena_program.specs.ScriptEnds.{ScriptEnds}
-use Rattle.arena_program.specs.LintEnds.{LintEnds}
+use Rattle.arena_program.specs.PoolEnds.{ScriptEnds, LintEnds}
 use Rattle.arena_program.specs.MainEnds.{MainEnds}
 use Rattle.arena_program.specs.declared.tasks.Lender.{Lender}
 use Rattle.arena_program.specs.declared.tasks.Lender.TheVariants.{Standard, Keeping, Fixed}
 use Rattle.arena_program.specs.declared.tasks.Task.{Task}
 
--- ---- Words that ask for scripts ask for nothing else
+-- ---- Words that ask for scripts name one pool
 
 -- the first letter of the first word
 abbrev letter : List (List ℕ) → ℕ
 letter [] = 0
 letter (word ∷ words) = get_or word 0 0
-
-no_calls : (words : List (List ℕ)) (task : Task) → AsksScripts words task → AsksCalls words → ⊥
-no_calls words task scripts calls = let first : ◌≡◌ {A = ℕ} 115 99 = ap letter (sym scripts.all ∙ calls) in absurd (omega arith)
-
-no_gen : (words : List (List ℕ)) (task : Task) (start count : ℕ) → AsksScripts words task → AsksGen words start count → ⊥
-no_gen words task start count scripts gen =
-    let first : ◌≡◌ {A = ℕ} 115 103 = ap letter (sym scripts.all ∙ gen.all) in absurd (omega arith)
-
-no_lint : (words : List (List ℕ)) (task : Task) (workers : ℕ) → AsksScripts words task → AsksLint words workers → ⊥
-no_lint words task workers scripts lint =
-    let first : ◌≡◌ {A = ℕ} 115 108 = ap letter (sym scripts.all ∙ lint.all) in absurd (omega arith)
-
--- ---- And so do words that ask for sources to be linted
-
-lint_no_calls : (words : List (List ℕ)) (workers : ℕ) → AsksLint words workers → AsksCalls words → ⊥
-lint_no_calls words workers lint calls = let first : ◌≡◌ {A = ℕ} 108 99 = ap letter (sym lint.all ∙ calls) in absurd (omega arith)
-
-lint_no_gen : (words : List (List ℕ)) (workers start count : ℕ) → AsksLint words workers → AsksGen words start count → ⊥
-lint_no_gen words workers start count lint gen =
-    let first : ◌≡◌ {A = ℕ} 108 103 = ap letter (sym lint.all ∙ gen.all) in absurd (omega arith)
-
--- ---- They name one pool
 
 abbrev second : List (List ℕ) → List ℕ
 second [] = []
@@ -70,18 +47,18 @@ same_lender (Fixed bytes arenas) (Fixed others more) e =
 one_lender : (words : List (List ℕ)) (a b : Task) → AsksScripts words a → AsksScripts words b → a.lender ≡ b.lender
 one_lender words a b p q = same_lender a.lender b.lender (ap (drop 2) (sym p.all ∙ q.all))
 
--- ---- How runs end
+-- ---- How runs end, for words that ask for one thing
 
 module _ {C : Type 0} (source : C → Source) (worked : List Command → Outcome → Type 0) (words : List (List ℕ)) (status : Status)
     (old new : Outside) (before after : List (ℕ × Starved C)) where
   pub scripts_end : (task : Task) → AsksScripts words task → ScriptEnds source worked task.lender status old new before after
       → MainEnds source worked words status old new before after
   scripts_end task asks ends = record {
-    calls = λ calls. absurd (no_calls words task asks calls);
-    gen = λ start count gen. absurd (no_gen words task start count asks gen);
+    calls = λ calls. let first : ◌≡◌ {A = ℕ} 115 99 = ap letter (sym asks.all ∙ calls) in absurd (omega arith);
+    gen = λ start count gen. let first : ◌≡◌ {A = ℕ} 115 103 = ap letter (sym asks.all ∙ gen.all) in absurd (omega arith);
     scripts = λ other asked. subst (λ lender. ScriptEnds source worked lender status old new before after)
         (one_lender words task other asks asked) ends;
-    lint = λ workers lint. absurd (no_lint words task workers asks lint);
+    lint = λ workers lint. let first : ◌≡◌ {A = ℕ} 115 108 = ap letter (sym asks.all ∙ lint.all) in absurd (omega arith);
     other = λ calls gen scripts lint. absurd (scripts task asks);
     unstarved = λ none lint. absurd (none task asks);
   }
@@ -89,9 +66,9 @@ module _ {C : Type 0} (source : C → Source) (worked : List Command → Outcome
   pub lint_end : (workers : ℕ) → AsksLint words workers → LintEnds source status old new before after
       → MainEnds source worked words status old new before after
   lint_end workers asks ends = record {
-    calls = λ calls. absurd (lint_no_calls words workers asks calls);
-    gen = λ start count gen. absurd (lint_no_gen words workers start count asks gen);
-    scripts = λ task scripts. absurd (no_lint words task workers scripts asks);
+    calls = λ calls. let first : ◌≡◌ {A = ℕ} 108 99 = ap letter (sym asks.all ∙ calls) in absurd (omega arith);
+    gen = λ start count gen. let first : ◌≡◌ {A = ℕ} 108 103 = ap letter (sym asks.all ∙ gen.all) in absurd (omega arith);
+    scripts = λ task scripts. let first : ◌≡◌ {A = ℕ} 108 115 = ap letter (sym asks.all ∙ scripts.all) in absurd (omega arith);
     lint = λ others asked. ends;
     other = λ calls gen scripts lint. absurd (lint workers asks);
     unstarved = λ scripts none. absurd (none workers asks);

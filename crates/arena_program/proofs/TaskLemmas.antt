@@ -1,8 +1,10 @@
 -- The words of the program, one after another.
-use Rattle.std.proofs.Common.{◌≡◌, ◌≢◌, ℕ, ◌%◌, ◌<◌, ◌≤◌, List, [], ◌∷◌, Some, None, get_or, sym, ap, ◌∙◌, arith, codes}
+use Rattle.std.proofs.Common.{◌≡◌, ◌≢◌, ℕ, ◌%◌, ◌<◌, ◌≤◌, List, [], ◌∷◌, Some, None, get_or, refl, sym, ap, ◌∙◌, arith, codes}
 use Rattle.std.proofs.lemmas.Option.{some_pair_parts}
 use Rattle.call_rules.specs.Grammar.{number}
 use Rattle.line_parts.proofs.ReadingLemmas.{number_same}
+use Rattle.arena_pool.specs.Kinds.{HasLimit, HasRegions}
+use Rattle.arena_program.specs.PoolEnds.{kind_of, limit_of}
 use Rattle.arena_program.specs.Words.{IsWithin, ReadsFirst, IsLender, lender_words}
 use Rattle.arena_program.specs.declared.tasks.Lender.{Lender}
 use Rattle.arena_program.specs.declared.tasks.Lender.TheVariants.{Standard, Keeping, Fixed}
@@ -64,3 +66,15 @@ odd_bytes words rest behind bytes front first odd l is e =
     let f = fixed_words words rest front l is e in
     let same = (some_pair_parts bytes f.0 behind (number f.1 ∷ []) (first.only f.0 (number f.1 ∷ []) f.2.0 f.3)).0 in
     odd (ap (λ n. n % 16) same ∙ f.2.1)
+
+-- ---- The pool that the words name can be made
+
+pub has_regions : (lender : Lender) → IsLender lender → HasRegions (kind_of lender)
+has_regions Standard is = tt
+has_regions (Keeping limit) is = tt
+has_regions (Fixed bytes arenas) is = (is.1, is.0.low)
+
+pub has_limit : (lender : Lender) → HasLimit (kind_of lender) (limit_of lender)
+has_limit Standard = tt
+has_limit (Keeping limit) = tt
+has_limit (Fixed bytes arenas) = refl

@@ -7,28 +7,30 @@ use Rattle.script_rules.specs.Outcomes.{told, outcome_lines, lines_from}
 use Rattle.arena_workers.specs.declared.served.Starved.{Starved}
 use Rattle.lint_reports.specs.Reports as reports
 use Rattle.lint_reports.proofs.ReportLemmas.{reports_more}
-use Rattle.arena_program.specs.ScriptEnds.{All, shown, starved_of, text_of_served}
+use Rattle.script_rules.specs.declared.outcome.Outcome.{Outcome}
+use Rattle.arena_workers.specs.declared.served.Served.{Served}
+use Rattle.arena_lint.specs.declared.parts.Linted.{Linted}
+use Rattle.arena_program.specs.PoolEnds.{shown, starved_of, text_of_served, text_of_linted}
 use Rattle.arena_program.specs.Told.{served_text, linted_text, text_from}
-use Rattle.arena_program.specs.LintEnds.{Reported, text_of_linted}
 
 -- ---- The texts of all
 
-scripts_from : {C : Type 0} (i : ℕ) (all : All C)
+scripts_from : {C : Type 0} (i : ℕ) (all : List (Served Outcome C))
     → text_from served_text i all ≡ flat_map with_feed (lines_from i (map told (map (λ served. served.outcome) all)))
 scripts_from i [] = refl
 scripts_from i (served ∷ all) = ap (λ xs. served_text i served ++ xs) (scripts_from (i + 1) all)
     ∙ sym (flat_map-append with_feed (outcome_lines i (told served.outcome)) (lines_from (i + 1) (map told (map (λ s. s.outcome) all))))
 
-pub scripts_whole : {C : Type 0} (all : All C) → text_from served_text 0 all ≡ text_of_served all
+pub scripts_whole : {C : Type 0} (all : List (Served Outcome C)) → text_from served_text 0 all ≡ text_of_served all
 scripts_whole all = scripts_from 0 all
 
-reports_from : {C : Type 0} (i : ℕ) (all : Reported C)
+reports_from : {C : Type 0} (i : ℕ) (all : List (Linted C))
     → text_from linted_text i all ≡ flat_map with_feed (reports.lines_from i (map (λ linted. linted.report) all))
 reports_from i [] = refl
 reports_from i (linted ∷ all) = ap (λ xs. linted_text i linted ++ xs) (reports_from (i + 1) all)
     ∙ sym (reports_more i linted.report (map (λ l. l.report) all))
 
-pub reports_whole : {C : Type 0} (all : Reported C) → text_from linted_text 0 all ≡ text_of_linted all
+pub reports_whole : {C : Type 0} (all : List (Linted C)) → text_from linted_text 0 all ≡ text_of_linted all
 reports_whole all = reports_from 0 all
 
 -- ---- One after another

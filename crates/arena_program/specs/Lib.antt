@@ -1,6 +1,5 @@
 pub mod Words
-pub mod ScriptEnds
+pub mod PoolEnds
 pub mod Told
-pub mod LintEnds
 pub mod MainEnds
 pub mod Program

@@ -8,8 +8,7 @@ use Rattle.arena_calls.specs.Ends.{Outside, Ends, GenEnds, AsksCalls, AsksGen}
 use Rattle.arena_calls.specs.declared.status.Status.{Status}
 use Rattle.arena_calls.specs.declared.status.Status.TheVariants.{Usage}
 use Rattle.arena_program.specs.Words.{AsksScripts, AsksLint}
-use Rattle.arena_program.specs.ScriptEnds.{ScriptEnds}
-use Rattle.arena_program.specs.LintEnds.{LintEnds}
+use Rattle.arena_program.specs.PoolEnds.{ScriptEnds, LintEnds}
 use Rattle.arena_program.specs.declared.tasks.Task.{Task}
 
 -- The run ends as the words ask. Other words are no command, and nothing is touched. Where neither scripts nor sources

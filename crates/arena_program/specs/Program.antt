@@ -1,5 +1,5 @@
 -- What the program prints and returns: for its words, for their results, and over how much memory.
-use Rattle.std.specs.Prelude.{◌≡◌, ◌≢◌, ℕ, List, [], ◌∷◌, ◌++◌, drop, map, Option, Result, Ok, Err, ◌⊎◌, codes, String, string_bytes}
+use Rattle.std.specs.Prelude.{◌≡◌, ◌≢◌, ℕ, List, [], ◌∷◌, ◌++◌, drop, map, Result, Ok, Err, ◌⊎◌, codes, String, string_bytes}
 use Rattle.std.specs.Global.{Global}
 use Rattle.std.specs.IoError.{error_kind}
 use Rattle.std.specs.Vec.Iter.{into_iter_items}
@@ -7,16 +7,14 @@ use Rattle.std.specs.declared.io.Error.{Error}
 use Rattle.std.specs.declared.io.ErrorKind.{ErrorKind}
 use Rattle.std.specs.declared.io.ErrorKind.TheVariants.{OutOfMemory as NoMemory}
 use Rattle.std.specs.declared.vec.IntoIter.{IntoIter}
-use Rattle.arena_rules.specs.Causes.{counted}
-use Rattle.arena_calls.specs.Streams.{Writes, WritesPart}
-use Rattle.arena_calls.specs.Ends.{Outside}
+use Rattle.arena_calls.specs.Ends.{Outside, Prints}
 use Rattle.arena_chunks.specs.Source.{Source}
 use Rattle.script_rules.specs.declared.commands.Command.{Command}
 use Rattle.script_rules.specs.declared.outcome.Outcome.{Outcome}
 use Rattle.arena_workers.specs.declared.served.Starved.{Starved}
 use Rattle.arena_program.specs.MainEnds.{MainEnds}
 use Rattle.arena_calls.specs.declared.status.Status.{Status}
-use Rattle.arena_calls.specs.declared.status.Status.TheVariants.{Done, Usage, OutOfMemory, WriteFault}
+use Rattle.arena_calls.specs.declared.status.Status.TheVariants.{Usage, OutOfMemory}
 
 -- how many bytes the chunks of each arena of a pool may have: 64 MiB
 abbrev pub maker_budget : ℕ
@@ -34,12 +32,6 @@ words_of args = drop 1 (map string_bytes (into_iter_items args))
 abbrev pub status_without : ErrorKind → Status
 status_without NoMemory = OutOfMemory
 status_without kind = Usage
-
--- The text was written, or a first part of it and then writing failed once.
-abbrev pub Prints : List ℕ → Status → Option (List ℕ) → ℕ → Option (List ℕ) → ℕ → Type 0
-Prints text Done old before new after = Writes old new text × (after ≡ before)
-Prints text WriteFault old before new after = WritesPart old new text × (after ≡ counted before 1)
-Prints text _ old before new after = ⊥
 
 -- This text was printed, and nothing else touched.
 abbrev pub PrintsAlone : List ℕ → Status → Outside → Outside → Type 0

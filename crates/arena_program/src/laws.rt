@@ -3,11 +3,10 @@ ghost use Rattle.std.specs.Prelude.{◌≡◌, ◌≢◌, ◌<◌, ◌≤◌, �
 ghost use Rattle.script_rules.specs.Grammar.{ScriptsOf};
 ghost use Rattle.script_rules.specs.declared.commands.Command.{Command};
 ghost use Rattle.arena_workers.specs.declared.served.Starved.{Starved};
-ghost use Rattle.arena_calls.specs.Ends.{Outside, IsFaultless};
+ghost use Rattle.arena_calls.specs.Ends.{Outside, IsFaultless, status_of};
 ghost use Rattle.arena_calls.specs.ReadAll.{limit};
 ghost use Rattle.arena_calls.specs.declared.status.Status.{Status};
-ghost use Rattle.arena_program.specs.ScriptEnds.{ScriptEnds, status_of};
-ghost use Rattle.arena_program.specs.LintEnds.{LintEnds};
+ghost use Rattle.arena_program.specs.PoolEnds.{ScriptEnds, LintEnds};
 ghost use Rattle.arena_program.specs.declared.tasks.Lender.{Lender};
 
 use arena_chunks::ChunkSource;
@@ -41,7 +40,6 @@ pub fn told_script_faults<C: ChunkSource, J: Job<C>>()
 {}
 
 /// Where nothing fails, an input that isn't too long is linted, unless memory runs out.
-#[tactic(auto, using(crate::proofs::LintStatusLemmas::within, crate::proofs::LintStatusLemmas::over))]
 pub fn one_lint_status<C: ChunkSource>()
     ensures within { (status : Status) (old new : Outside) (before after : List (ℕ × Starved C)) (bytes : List ℕ)
         → LintEnds C.source status old new before after → IsFaultless old new → old.left ≡ Some bytes → length bytes ≤ limit
@@ -52,7 +50,6 @@ pub fn one_lint_status<C: ChunkSource>()
 {}
 
 /// A failed read or write is reported as such when sources are linted, too.
-#[tactic(auto, using(crate::proofs::LintStatusLemmas::told_reads, crate::proofs::LintStatusLemmas::told_writes))]
 pub fn told_lint_faults<C: ChunkSource>()
     ensures reads { (status : Status) (old new : Outside) (before after : List (ℕ × Starved C))
         → LintEnds C.source status old new before after → new.read_faults ≢ old.read_faults → status ≡ Status.ReadFault }

@@ -8,10 +8,10 @@ ghost use Rattle.lint_reports.specs.Sources.{sources};
 ghost use Rattle.arena_lint.specs.All.{IsLintedAlone};
 ghost use Rattle.arena_calls.specs.Ends.{outside};
 ghost use Rattle.arena_program.specs.Words.{IsWithin};
-ghost use Rattle.arena_program.specs.LintEnds.{LintEnds};
+ghost use Rattle.arena_program.specs.PoolEnds.{LintEnds};
 
 use crate::told::report;
-use arena_calls::{Input, Output, ReadErr, Status, read_all, write_all};
+use arena_calls::{Input, Output, ReadErr, Status, print, read_all};
 use arena_chunks::OutOfMemory;
 use arena_lint::{LintErr, Linted, lint_parts};
 use arena_pool::{AllocatorPool, ChunkMaker, MOST_LENT, PoolName};
@@ -111,8 +111,5 @@ pub fn run_sources<I: Input, O: Output, R: Threads + Wait + Sync, K: ChunkMaker 
     let Ok(text) = report(alloc, all, starved) else {
         return Status::OutOfMemory;
     };
-    match write_all(output, text.as_slice()) {
-        Ok(()) => Status::Done,
-        Err(_) => Status::WriteFault,
-    }
+    print(output, text.as_slice())
 }

@@ -7,13 +7,13 @@ ghost use Rattle.arena_chunks.specs.Creating.{uncounted_memory};
 ghost use Rattle.arena_calls.specs.Budget.{budget};
 ghost use Rattle.arena_calls.specs.Ends.{outside, code_of};
 ghost use Rattle.arena_calls.specs.Messages.{Explains};
-ghost use Rattle.arena_program.specs.Program.{maker_budget, usage, Prints, Serves, Answers};
+ghost use Rattle.arena_program.specs.Program.{maker_budget, usage, Serves, Answers};
 ghost use Rattle.arena_calls.specs.declared.status.Status.{Status};
 
 use crate::arguments::{without_words, words};
 use crate::budget::BudgetedMaker;
 use crate::whole::arena_main;
-use arena_calls::{Budgeted, Input, Output, Status, exit_with, is_one_word, write_all};
+use arena_calls::{Budgeted, Input, Output, Status, exit_with, is_one_word, print};
 use arena_chunks::{Arena, Bytes};
 use arena_script::Job;
 use script_workers::Starved;
@@ -68,16 +68,6 @@ sources: separated by lines %%, each gets a report
 
 const VERSION: &str = "arena_run 0.1.0\n";
 
-// Prints a text instead of a run.
-fn print<O: Output>(output: &mut O, text: &str) -> Status
-    ensures { Prints text.now result (O.written output.old) (O.faults output.old) (O.written output.new) (O.faults output.new) }
-{
-    match write_all(output, text.as_bytes()) {
-        Ok(()) => Status::Done,
-        Err(_) => Status::WriteFault,
-    }
-}
-
 // Does what the words ask for.
 fn serve<
     C: Budgeted,
@@ -106,10 +96,10 @@ fn serve<
         starved.old.items starved.new.items }
 {
     if is_one_word(words, b"--help") {
-        return print(output, HELP);
+        return print(output, HELP.as_bytes());
     }
     if is_one_word(words, b"--version") {
-        return print(output, VERSION);
+        return print(output, VERSION.as_bytes());
     }
     arena_main(
         rt, alloc, words, arena, chunks, input, output, maker, job, starved,

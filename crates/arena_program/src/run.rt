@@ -2,12 +2,12 @@
 ghost use Rattle.arena_chunks.specs.Source.{View};
 ghost use Rattle.arena_calls.specs.Ends.{outside};
 ghost use Rattle.arena_program.specs.Words.{IsWithin, IsLender};
-ghost use Rattle.arena_program.specs.ScriptEnds.{ScriptEnds};
+ghost use Rattle.arena_program.specs.PoolEnds.{ScriptEnds};
 
 use crate::pools::run_task;
 use crate::tasks::Task;
 use crate::told::report;
-use arena_calls::{Input, Output, ReadErr, Status, read_all, write_all};
+use arena_calls::{Input, Output, ReadErr, Status, print, read_all};
 use arena_pool::ChunkMaker;
 use arena_script::Job;
 use script_lines::{LinesErr, laws, parse_scripts};
@@ -62,8 +62,5 @@ pub fn run_lines_of_scripts<
     let Ok(text) = report(alloc, all, starved) else {
         return Status::OutOfMemory;
     };
-    match write_all(output, text.as_slice()) {
-        Ok(()) => Status::Done,
-        Err(_) => Status::WriteFault,
-    }
+    print(output, text.as_slice())
 }

@@ -1,6 +1,6 @@
 // What the program prints of the results of scripts, or of sources.
 ghost use Rattle.std.specs.Prelude.{◌≡◌, ◌++◌, ◌<◌, ◌^◌, length, IfOk, OnOk, OnErr};
-ghost use Rattle.arena_program.specs.ScriptEnds.{shown, starved_of};
+ghost use Rattle.arena_program.specs.PoolEnds.{shown, starved_of};
 ghost use Rattle.arena_program.specs.Told.{text_from};
 
 use arena_chunks::{ChunkSource, OutOfMemory};

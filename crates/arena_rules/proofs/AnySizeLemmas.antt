@@ -4,23 +4,13 @@ use Rattle.std.specs.Prelude.{nat_le}
 use Rattle.std.specs.List.{filter_map}
 use Rattle.std.proofs.lemmas.Bool.Decides.{nat_tests}
 use Rattle.std.proofs.lemmas.List.Sums.{sum_by-cons}
-use Rattle.arena_rules.specs.Rounding.{up, is_layout, is_power_among}
+use Rattle.arena_rules.specs.Rounding.{up, is_layout}
 use Rattle.arena_rules.specs.State.{State, Chunk, IsValid, top_of, floor_of, newest_size, allocated_bytes}
 use Rattle.arena_rules.specs.Search.{halves, possible, entries, rounded_size, next_base, least_size, asked, asked_above}
 use Rattle.arena_rules.proofs.RoundingLemmas.{up_ge, up_close, up_mono}
 use Rattle.arena_rules.proofs.SizeLemmas.{size_some}
 use Rattle.arena_rules.proofs.SearchLemmas.{possible_some}
-use Rattle.arena_rules.proofs.AskedSizeLemmas.{chunk_align_small}
-
-layout_16 : (n : ℕ) → n + 16 ≤ 2 ^ 63 → IsTrue (is_layout n 16)
-unfolding is_power_among
-layout_16 n fits =
-    let close = up_close n 16 (omega arith) in
-    let test : nat_le (up n 16) (2 ^ 63 - 1) ≡ true = grind (arith, nat_tests, close) in
-    rw test refl
-
-layout_at : (align n : ℕ) → align ≡ 16 → n + 16 ≤ 2 ^ 63 → IsTrue (is_layout n align)
-layout_at align n is fits = rw is (layout_16 n fits)
+use Rattle.arena_rules.proofs.AskedSizeLemmas.{chunk_align_small, layout_at}
 
 -- a chunk of this many bytes is possible, below these addresses
 can_be : (base size align m : ℕ) → align ≤ 16 → size ≤ m → 4096 ≤ m → m + 64 ≤ 2 ^ 63 → base ≤ 2 ^ 62 + 2 ^ 61 + 8192

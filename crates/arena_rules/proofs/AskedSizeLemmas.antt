@@ -1,49 +1,22 @@
 -- How large the chunks are that an allocation asks for, and when it asks for one.
 use Rattle.std.proofs.Common.{◌≡◌, ℕ, zero, suc, ◌+◌, ◌-◌, ◌*◌, ◌/◌, ◌^◌, ◌<◌, ◌≤◌, max, sym, refl, subst, arith, IsTrue, Some, None, Option, List, [], ◌∷◌, length, take, map, sum, inl, inr, true, false, Bool}
-use Rattle.std.specs.Prelude.{nat_le, slice_get}
+use Rattle.std.specs.Prelude.{nat_le}
 use Rattle.std.specs.List.{filter_map, cons_option, AllByRecursion}
 use Rattle.std.proofs.lemmas.Bool.{cases_lt, cases_Bool}
 use Rattle.std.proofs.lemmas.Bool.Decides.{nat_tests}
 use Rattle.std.proofs.lemmas.List.Sums.{sum_by-cons}
-use Rattle.std.proofs.lemmas.Option.{same_Some}
 use Rattle.std.proofs.Math.Nat.{pow-suc}
 use Rattle.arena_rules.specs.Rounding.{down, up, is_layout, is_power_among}
 use Rattle.arena_rules.specs.State.{State, Chunk, AreChunks, FitsKind, IsValid, start_of, cursor_of, top_of, floor_of, newest_size, used_length, used_bytes, allocated_bytes}
 use Rattle.arena_rules.specs.Search.{place, halves, possible, entries, rounded_size, chunk_align, next_base, least_size, asked, asked_above, requests, alloc_requests, requests_at}
 use Rattle.arena_rules.specs.Used.{unit_of}
 use Rattle.arena_rules.specs.Asking.{IsRequestWithin, most_asked}
+use Rattle.arena_rules.proofs.ListLemmas.{all_filtered, all_take, all_map, all_weaker}
 use Rattle.arena_rules.proofs.RoundingLemmas.{down_close, up_ge, up_close}
 use Rattle.arena_rules.proofs.SizeLemmas.{size_some}
 use Rattle.arena_rules.proofs.SearchLemmas.{size_is, possible_some}
 use Rattle.arena_rules.proofs.EntryLemmas.{possible_is, rounded_large}
 use Rattle.arena_rules.proofs.UsedBytesLemmas.{unit_positive}
-
--- ---- Lists
-
--- a filter's results have what follows from its inputs
-all_filtered : {X Y : Type 0} (h : X → Option Y) (P : X → Type 0) (Q : Y → Type 0) → ((x : X) (y : Y) → P x → h x ≡ Some y → Q y)
-    → (xs : List X) → AllByRecursion P xs → AllByRecursion Q (filter_map h xs)
-all_filtered h P Q follows [] all = tt
-all_filtered {X} {Y} h P Q follows (x ∷ xs) all = go (h x) refl (all_filtered h P Q follows xs all.1)
-  where
-    go : (o : Option Y) → h x ≡ o → AllByRecursion Q (filter_map h xs) → AllByRecursion Q (cons_option o (filter_map h xs))
-    go None is rest = rest
-    go (Some y) is rest = (follows x y all.0 is, rest)
-
-all_take : {X : Type 0} (P : X → Type 0) → (k : ℕ) (xs : List X) → AllByRecursion P xs → AllByRecursion P (take k xs)
-all_take P zero xs all = tt
-all_take P (suc k) [] all = tt
-all_take P (suc k) (x ∷ xs) all = (all.0, all_take P k xs all.1)
-
-all_map : {X Y : Type 0} (f : X → Y) (P : X → Type 0) (Q : Y → Type 0) → ((x : X) → P x → Q (f x)) → (xs : List X) → AllByRecursion P xs
-    → AllByRecursion Q (map f xs)
-all_map f P Q follows [] all = tt
-all_map f P Q follows (x ∷ xs) all = (follows x all.0, all_map f P Q follows xs all.1)
-
-pub all_get : {X : Type 0} (P : X → Type 0) → (xs : List X) (k : ℕ) (x : X) → AllByRecursion P xs → slice_get xs k ≡ Some x → P x
-all_get P [] k x all found = absurd (cc)
-all_get P (y ∷ ys) zero x all found = subst P (same_Some y x found) all.0
-all_get P (y ∷ ys) (suc k) x all found = all_get P ys k x all.1 found
 
 -- ---- The sizes that are tried
 
@@ -120,10 +93,6 @@ one_chunk state valid still = go state.chunks (subst (λ (b : Bool). FitsKind b 
 
 -- ---- What is asked for
 
-all_weaker : {X : Type 0} (P Q : X → Type 0) → ((x : X) → P x → Q x) → (xs : List X) → AllByRecursion P xs → AllByRecursion Q xs
-all_weaker P Q follows [] all = tt
-all_weaker P Q follows (x ∷ xs) all = (follows x all.0, all_weaker P Q follows xs all.1)
-
 pub all_asked : (state : State) (size align bytes : ℕ) → IsValid state → place state size align ≡ None → align ≤ 16
     → used_bytes state + size + (unit_of state align - 1) ≤ bytes
     → AllByRecursion (IsBetween 16320 (most_asked bytes)) (asked state size align)
@@ -179,7 +148,7 @@ layout_16 n fits =
     let test : nat_le (up n 16) (2 ^ 63 - 1) ≡ true = grind (arith, nat_tests, close) in
     rw test refl
 
-layout_at : (align n : ℕ) → align ≡ 16 → n + 16 ≤ 2 ^ 63 → IsTrue (is_layout n align)
+pub layout_at : (align n : ℕ) → align ≡ 16 → n + 16 ≤ 2 ^ 63 → IsTrue (is_layout n align)
 layout_at align n is fits = rw is (layout_16 n fits)
 
 -- a chunk of less than twice the least size is possible, below these addresses

@@ -1,11 +1,12 @@
 -- What calls ask for adds up over calls; and when the source refused.
-use Rattle.std.proofs.Common.{◌≡◌, ℕ, ◌+◌, ◌-◌, ◌^◌, ◌<◌, ◌≤◌, ap, sym, ◌∙◌, arith, Some, None, Option, List, [], ◌∷◌, ◌++◌, length, inl, inr, true, length-append, append-nil, append_assoc}
+use Rattle.std.proofs.Common.{◌≡◌, ℕ, ◌+◌, ◌-◌, ◌^◌, ◌<◌, ◌≤◌, ap, sym, ◌∙◌, arith, Some, None, Option, List, [], ◌++◌, length, inl, inr, true, length-append, append-nil, append_assoc}
 use Rattle.std.specs.Prelude.{IfSome, IsSomeAnd}
 use Rattle.std.specs.List.{AllByRecursion}
 use Rattle.std.proofs.lemmas.Bool.{cases_lt}
 use Rattle.arena_rules.specs.State.{State, top_of, allocated_bytes}
 use Rattle.arena_rules.specs.Source.{Source, IsAsked}
 use Rattle.arena_rules.specs.Asking.{IsRequestWithin, most_asked, AddsWithin, HasGrown, AsksWithin, IsRefusedBySource, IsStarved}
+use Rattle.arena_rules.proofs.ListLemmas.{all_append, all_weaker}
 use Rattle.arena_rules.proofs.GrownLemmas.{grown_not, grown_then}
 
 -- ---- Reported requests
@@ -31,13 +32,8 @@ told_same : (P : List (ℕ × ℕ) → List (ℕ × ℕ) → Type 0) → ((some 
 told_same P is None = tt
 told_same P is (Some some) = is some
 
-all_append : {X : Type 0} (P : X → Type 0) → (xs ys : List X) → AllByRecursion P xs → AllByRecursion P ys → AllByRecursion P (xs ++ ys)
-all_append P [] ys one two = two
-all_append P (x ∷ xs) ys one two = (one.0, all_append P xs ys one.1 two)
-
 all_less : (m n : ℕ) → m ≤ n → (xs : List (ℕ × ℕ)) → AllByRecursion (IsRequestWithin m) xs → AllByRecursion (IsRequestWithin n) xs
-all_less m n le [] all = tt
-all_less m n le (x ∷ xs) all = ((omega (arith, all.0.0), all.0.1), all_less m n le xs all.1)
+all_less m n le = all_weaker (IsRequestWithin m) (IsRequestWithin n) (λ e within. (omega (arith, within.0), within.1))
 
 -- ---- What calls ask for
 

@@ -163,6 +163,9 @@ none_left chunks n none = rw none (all_dropped chunks (length chunks - 0) (omega
     all_dropped (x ∷ l) zero fits = absurd (omega arith)
     all_dropped (x ∷ l) (suc k) fits = all_dropped l k (omega arith)
 
+not_both : (b : Bool) → b ≡ true → b ≡ false → ⊥
+not_both b is_true is_false = cc
+
 -- the oldest chunks make a valid state, too, if an arena that doesn't grow keeps one
 pub first_valid : (n : ℕ) (state : State) → IsValid state → (n ≡ 0 → state.is_growing ≡ true)
     → IsValid (record state { chunks = first_chunks n state.chunks })
@@ -174,9 +177,6 @@ first_valid n state valid growing = record {
   generation = valid.generation;
 }
   where
-    not_both : (b : Bool) → b ≡ true → b ≡ false → ⊥
-    not_both b is_true is_false = cc
-
     kind : (grows : Bool) → state.is_growing ≡ grows → FitsKind state.is_growing (first_chunks n state.chunks)
     kind true same = rw same (kind_after (length state.chunks - n) state.chunks (rw same at valid.kind))
     kind false same = elim (cases_lt 0 n) [
@@ -205,9 +205,6 @@ back_valid mark state valid holds = record {
 
     first : AreChunks state.min_align kept
     first = valid_after state.min_align (length state.chunks - mark.chunks) state.chunks valid.chunks
-
-    not_both : (b : Bool) → b ≡ true → b ≡ false → ⊥
-    not_both b is_true is_false = cc
 
     kind : (growing : Bool) → state.is_growing ≡ growing → FitsKind state.is_growing kept
     kind true same = rw same (kind_after (length state.chunks - mark.chunks) state.chunks (rw same at valid.kind))

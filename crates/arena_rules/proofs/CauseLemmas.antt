@@ -10,7 +10,7 @@ counted_none n = omega arith
 pub counted_more : (n k j : ℕ) → counted (counted n k) j ≡ counted n (k + j)
 counted_more n k j = omega arith
 
--- The same equation for three counts.
+-- Of three counts, each the one before and what it rose by, the last is the first and both rises.
 pub counted_on : (a b c k j : ℕ) → b ≡ counted a k → c ≡ counted b j → c ≡ counted a (k + j)
 counted_on a b c k j first second = second ∙ ap (λ (n : ℕ). counted n j) first ∙ counted_more a k j
 

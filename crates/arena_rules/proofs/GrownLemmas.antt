@@ -13,7 +13,8 @@ use Rattle.arena_rules.specs.Used.{unit_of}
 use Rattle.arena_rules.specs.Asking.{HasGrown}
 use Rattle.arena_rules.proofs.RoundingLemmas.{up_close}
 use Rattle.arena_rules.proofs.AllocLemmas.{entry_of, growing_of}
-use Rattle.arena_rules.proofs.AskedSizeLemmas.{all_asked, all_get, chunk_align_small}
+use Rattle.arena_rules.proofs.AskedSizeLemmas.{all_asked, chunk_align_small}
+use Rattle.arena_rules.proofs.ListLemmas.{all_get}
 
 -- ---- What becomes of the chunks
 

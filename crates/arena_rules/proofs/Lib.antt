@@ -1,3 +1,4 @@
+pub mod ListLemmas
 pub mod RoundingLemmas
 pub mod SizeLemmas
 pub mod SearchLemmas
@@ -8,6 +9,7 @@ pub mod AllocLemmas
 pub mod UsedLemmas
 pub mod UsedBytesLemmas
 pub mod UsedResizeLemmas
+pub mod ResizeSteps
 pub mod NewBlockLemmas
 pub mod ReturnLemmas
 pub mod AllocatedLemmas

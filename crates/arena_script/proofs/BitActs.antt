@@ -70,6 +70,7 @@ module _ {things : Things} {old new : View} {name : ℕ} {s : BitSet} (h : Holds
       → GivesThing command things old new name (thing.Bits s) Done
   becomes same given is = exchanged h (rw (is.set_is, same) given) (record {
     held = record { held = is.held; small = small };
+    room = refl;
     least = omega (arith, same_used old new is.places);
     costs = nothing_given 0 _ 0 old new is.places (omega arith);
     frame = is.frame;
@@ -113,6 +114,7 @@ module _ {command : Command} {things : Things} {old new : View} {name capacity :
   pub made_gives : {s : BitSet} → PlacesSet old new capacity set (Ok s) → GivesThing command things old new name (thing.Bits s) Done
   made_gives {s} places = made none taken (given ∙ ap (λ o. Gives name o Done (8 * words_for capacity + 7)) (sym is)) (record {
     held = record { held = places.held; small = omega (arith, places.capacity, small) };
+    room = refl;
     least = omega (
       arith,
       placed_least old new (words_for capacity * 8) 8 s.words.block (set_layout capacity small) places.placed,

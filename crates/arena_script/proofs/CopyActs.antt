@@ -78,6 +78,7 @@ module _ (rule : GrowthRule) (old new : View) (other : ℕ) {things : Things} {n
   list_copy_gives {w} split = let makes = from_start split in
       copy_gives h none (ap (λ k. 24 * k) counted) (thing.List w) (ap AList makes.list_is) (record {
         held = makes.held;
+        room = refl;
         least = grown_least old new (empty_block 4) 4 4 0 (λ (w : Vec ℕ). w.raw.block) (24 * n) 0 later one place (omega arith)
             (new_growth 4 n) w paid (makes.held.place.of_size ∙ ap (λ k. k * 4) makes.cap) makes.made;
         costs = rw (makes.cap, makes.len, counted) (grown_costs old new (empty_block 4) 4 4 0 (λ (w : Vec ℕ). w.raw.block) (24 * n) 0

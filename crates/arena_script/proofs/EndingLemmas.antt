@@ -51,6 +51,10 @@ is_at script i c inside same = record {
   more = rw add-one (take-suc script i c inside ∙ ap (λ x. take i script ++ x ∷ []) (sym same));
 }
 
+-- a map's block has the bytes of its pairs
+abbrev pub HavePairs : Type 0
+HavePairs = (m : Memory) (h : HashMap ℕ ℕ FxHasher) → IsMapIn pairs m h → (4 + 4) * h.len ≤ h.table.block.size
+
 module _ (script : List Command) (start : View) {replies : List ScriptReply} {i : ℕ} (inside : i ≤ length script)
     (are : replies ≡ (run (take i script)).replies) where
   counted : length replies ≡ i
@@ -62,10 +66,20 @@ module _ (script : List Command) (start : View) {replies : List ScriptReply} {i 
   next_cost : (ended : Ended) (bytes : ℕ) → cost_with_next script (came replies ended bytes) ≡ cost_of (take (i + 1) script)
   next_cost ended bytes = ap (λ n. cost_of_first (n + 1) script) counted ∙ sym (first_cost (i + 1) script)
 
+  -- what the objects so far need is in use
+  needs : HavePairs → {now : View} {things : Things} → IsAfter script start now things i
+      → need (run (take (length replies) script)).objects ≤ used now
+  needs maps {now} {things} after = omega (
+    arith,
+    ap (λ n. need (run (take n script)).objects) counted,
+    ap need after.objects,
+    needed maps now.memory things after.are,
+    after.least,
+  )
+
   -- ---- Every command was served.
 
-  module _ (maps : (m : Memory) (h : HashMap ℕ ℕ FxHasher) → IsMapIn pairs m h → (4 + 4) * h.len ≤ h.table.block.size)
-      {now : View} {things : Things} (unused : used start ≡ 0) (after : IsAfter script start now things i) (all : i ≡ length script)
+  module _ (maps : HavePairs) {now : View} {things : Things} (unused : used start ≡ 0) (after : IsAfter script start now things i) (all : i ≡ length script)
       {bytes : ℕ} (is : bytes ≡ used now) where
     whole : take i script ≡ script
     whole = ap (λ n. take n script) all ∙ take-length script
@@ -89,6 +103,7 @@ module _ (script : List Command) (start : View) {replies : List ScriptReply} {i 
         after.least,
         is,
       );
+      so_far = omega (arith, needs maps after, is);
       full = λ e. absurd (cc);
       refused = λ e. absurd (cc);
       asked = λ other _. absurd (other refl);
@@ -99,7 +114,7 @@ module _ (script : List Command) (start : View) {replies : List ScriptReply} {i 
 
   -- ---- A command wasn't served.
 
-  module _ {now next : View} {things : Things} {c : Command} (at : IsAt script i c) (unused : used start ≡ 0)
+  module _ (maps : HavePairs) {now next : View} {things : Things} {c : Command} (at : IsAt script i c) (unused : used start ≡ 0)
       (after : IsAfter script start now things i) {e : AllocError} (stops : Stops c now next things e) {bytes : ℕ}
       (is : bytes ≡ used next) where
     stopped_at : (ended : Ended) → IsStoppedAt script (came replies ended bytes)
@@ -124,6 +139,7 @@ module _ (script : List Command) (start : View) {replies : List ScriptReply} {i 
       used = is;
       most = omega (arith, next_cost ended bytes, is, unused, (stopped_costs c at.more after stops).takes);
       least = λ e. absurd (other e);
+      so_far = omega (arith, needs maps after, stops.least, is);
       full = full;
       refused = refused;
       asked = λ _. asked;
@@ -180,6 +196,7 @@ run_unbegun script start unused bytes is = record {
   used = is;
   most = omega (arith, is, unused);
   least = λ e. absurd (cc);
+  so_far = let none : need (run (take 0 script)).objects ≡ 0 = refl in omega (arith, none);
   full = λ e. absurd (cc);
   refused = λ e. absurd (cc);
   asked = λ _ other. absurd (other refl);

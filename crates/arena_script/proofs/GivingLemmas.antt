@@ -1,5 +1,6 @@
 -- How a command gives a name a thing, and what it leaves where it doesn't.
 use Rattle.std.proofs.Common.{◌≡◌, ℕ, ◌+◌, ◌≤◌, sym, ◌∙◌, IsTrue, Option, Some, None, [], ◌∷◌}
+use Rattle.std.specs.Option.{option_map}
 use Rattle.arena_chunks.specs.Frame.{Frame}
 use Rattle.arena_chunks.specs.Source.{View}
 use Rattle.arena_clone.specs.Asks.{AsksFor}
@@ -8,6 +9,7 @@ use Rattle.script_rules.specs.Objects.{get, Object}
 use Rattle.script_rules.specs.Effects.{Gives, effect}
 use Rattle.script_rules.specs.declared.commands.Command.{Command}
 use Rattle.script_rules.specs.declared.commands.ScriptReply.{ScriptReply}
+use Rattle.arena_script.specs.Rooms.{room_of, room_in, room_held}
 use Rattle.arena_script.specs.Asks.{asks}
 use Rattle.arena_script.specs.Acts.{used, CostsGiven, GivesThing, GivesNothing}
 use Rattle.arena_script.specs.Things.{Things, IsThingIn, object_in, seen, block_of, blocks_of, size_of, size_held, credit_of, credit_held}
@@ -19,6 +21,7 @@ use Rattle.arena_script.proofs.ThingLemmas.{Holds}
 -- A thing replaces the one before, if any, at a cost and with its credit.
 pub record IsGiven (cost : ℕ) (old new : View) (o : Option Thing) (w : Thing) : Type 0 where
   pub held : IsThingIn new.memory w
+  pub room : room_in w ≡ room_of (object_in new.memory w) (option_map (object_in old.memory) o) (room_held o)
   pub least : used old + size_of w ≤ used new + size_held o
   pub costs : CostsGiven cost (credit_held o) (credit_of w) old new
   pub frame : Frame old.memory new.memory (blocks_of o) (block_of w ∷ [])
@@ -32,6 +35,7 @@ module _ {command : Command} {things : Things} {old new : View} {name cost : ℕ
     effect_is = effect_is;
     taken = λ none. taken (sym at ∙ none);
     held = is.held;
+    room = rw at is.room;
     least = rw at is.least;
     costs = rw at is.costs;
     frame = rw at is.frame;

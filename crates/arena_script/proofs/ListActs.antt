@@ -119,6 +119,7 @@ module _ (rule : GrowthRule) (paid : Paid) (old new : View) (w : Vec ℕ) {thing
   pub list_gives : Grows {X = Unit {0}} short old new v growth list w (Ok tt) → GivesThing command things old new name (thing.List w) Done
   list_gives grows = exchanged {cost = 24} h (rw grows.list_is to.given) (record {
     held = grows.held;
+    room = refl;
     least = grown_least old new v.raw.block 4 4 v.raw.cap (λ (u : Unit {0}). w.raw.block) 24 (credit_of (thing.List v)) later one
         h.held.place (omega arith) growth tt afforded (grows.held.place.of_size ∙ ap (λ n. n * 4) grows.cap) grows.made;
     costs = rw (grows.cap, grows.len, to.longer) (grown_costs old new v.raw.block 4 4 v.raw.cap (λ (u : Unit {0}). w.raw.block) 24
@@ -143,6 +144,7 @@ module _ {things : Things} {old new : View} {name : ℕ} {v w : Vec ℕ} (h : Ho
       → GivesThing command things old new name (thing.List w) reply
   becomes fewer given is = exchanged h (rw is.list_is given) (record {
     held = is.held;
+    room = refl;
     least = rw is.block (omega (arith, same_used old new is.places));
     costs = nothing_given 0 (credit_of (thing.List v)) (credit_of (thing.List w)) old new is.places (omega (arith, is.cap, is.len, fewer));
     frame = is.frame;

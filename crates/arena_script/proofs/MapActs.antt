@@ -44,6 +44,7 @@ unfolding effect
 made_map old none {h} is =
     let no_pairs = ap pairs_of (is.map_is old.memory) ∙ pairs_none in made none refl (rw (none, no_pairs) refl) (record {
       held = record { held = is.held old.memory; count = is.len ∙ sym (ap (λ (es : Entries ℕ). length es) no_pairs) };
+      room = refl;
       least = omega (arith, is.block);
       costs = nothing_given 0 0 (credit_of (thing.Map h)) old old (still old) (omega (arith, is.credit));
       frame = (empty_after old.memory old.memory [] [] [] h.table.block is.block).1 (frame_reflexive old.memory []);
@@ -110,6 +111,7 @@ unbind_gives {things} {old} {new} {name} {h} {w} {key} {old_value} holds small o
     let count : w.len ≡ length (unbind (es holds) key) = out.len ∙ fewer (has (is holds) (content key)) (has_pair (is holds) key small) in
     let given = unbind_given holds key small in exchanged holds (rw (same, out.says) given) (record {
       held = record { held = out.becomes.held; count = count ∙ sym (ap (λ (fs : Entries ℕ). length fs) same) };
+      room = refl;
       least = omega (arith, out.becomes.costs.bytes, ap (λ (t : Table ℕ ℕ). t.block.size) out.becomes.table);
       costs = nothing_given 0 (credit_of (thing.Map h)) (credit_of (thing.Map w)) old new out.becomes.places
           (omega (arith, out.becomes.costs.credit));
@@ -208,7 +210,7 @@ module _ (old new : View) (w : HashMap ℕ ℕ FxHasher) (value : ℕ) {things :
 
     pub bind_gives : GivesThing (Bind name key value) things old new name (thing.Map w) (number_or_nothing old_value)
     bind_gives = let put = by_there there refl in exchanged holds (rw (same_pairs, puts.says) (bind_given holds key value small room))
-        (record { held = put_held; least = put.least; costs = put.costs; frame = puts.frame })
+        (record { held = put_held; room = refl; least = put.least; costs = put.costs; frame = puts.frame })
 
   -- ---- It isn't.
 

@@ -121,6 +121,7 @@ module _ (old new : View) (other : ℕ) {things : Things} {name : ℕ} {h : Map}
     by_len zero none (b, rest, empty, is, (last, empties, same)) =
         let whole = is ∙ ap (λ (bs : List Block). b ∷ bs) empties in record {
           held = map_held;
+          room = refl;
           least = omega (arith, same_used old new same, empty, ap (λ (b : Block). b.size) (own b whole));
           costs = nothing_given cost 0 (credit_of (thing.Map copy)) old new same (omega (arith, same_len, none));
           frame = map_frame b whole;
@@ -131,6 +132,7 @@ module _ (old new : View) (other : ℕ) {things : Things} {name : ℕ} {h : Map}
         let is = taken old new (slots * 9) 8 copies.blocks cost one layout (omega arith) (omega (arith, within, some, few))
         (credit_of (thing.Map copy)) (omega (arith, within, some, same_len)) takes in record {
           held = map_held;
+          room = refl;
           least = omega (arith, is.least, is.of_size, ap (λ (b : Block). b.size) (own is.block is.is));
           costs = is.costs;
           frame = map_frame is.block is.is;

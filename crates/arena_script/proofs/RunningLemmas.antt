@@ -4,11 +4,13 @@ use Rattle.arena_chunks.specs.Source.{View}
 use Rattle.arena_items.specs.Costs.{Costs}
 use Rattle.arena_items.specs.declared.room.AllocError.{AllocError}
 use Rattle.arena_items.proofs.Layers.{costs_ok, costs_then}
+use Rattle.script_rules.specs.Objects.{Objects}
 use Rattle.script_rules.specs.Machine.{step, run, run_from, sum, cost_of}
 use Rattle.script_rules.specs.declared.commands.Command.{Command}
 use Rattle.script_rules.specs.declared.commands.ScriptReply.{ScriptReply}
 use Rattle.script_rules.proofs.RunLemmas.{goes_on, no_objects}
 use Rattle.arena_script.specs.Things.{Things, objects_in}
+use Rattle.arena_script.specs.Rooms.{Rooms, rooms_step, rooms_from, rooms_after, HaveRooms}
 use Rattle.arena_script.specs.Acts.{used, far, CostsGiven}
 use Rattle.arena_script.specs.Serves.{Serves, Stops, IsAfter, KeepsKind, credits_of}
 use Rattle.arena_script.proofs.CostFacts.{still, nothing_given}
@@ -36,16 +38,24 @@ one_more script i c is =
           ∙ ap (λ n. cost_of (take i script) + n) (omega arith);
     }
 
+-- the capacities after one more command
+rooms_more : (objects : Objects) (rooms : Rooms) (script : List Command) (c : Command)
+    → rooms_from objects rooms (script ++ c ∷ []) ≡ rooms_step c (run_from objects script).objects (rooms_from objects rooms script)
+unfolding rooms_from run_from
+rooms_more objects rooms [] c = refl
+rooms_more objects rooms (d ∷ script) c = rooms_more (step d objects).objects (rooms_step d objects rooms) script c
+
 pub none_replied : [] ≡ (run []).replies
 unfolding run_from
 none_replied = refl
 
 -- Before the first command there are no things.
 pub after_none : (script : List Command) (start : View) → used start ≡ 0 → IsAfter script start start [] 0
-unfolding run_from
+unfolding run_from rooms_from
 after_none script start unused = record {
   are = record { rising = refl; held = λ n. tt; apart = λ n k other. tt; objects = no_objects };
   objects = refl;
+  rooms = λ name. tt;
   least = omega arith;
   costs = nothing_given _ 0 0 start start (still start) (omega arith);
   kind = record { is_growing = refl; allocated = λ stays. refl };
@@ -79,6 +89,9 @@ module _ {script : List Command} {start now : View} {things : Things} {i : ℕ} 
   after_more {next} {later} serves = record {
     are = serves.are;
     objects = serves.objects ∙ ap (λ o. (step c o).objects) after.objects ∙ sym more.objects;
+    rooms = subst (λ rooms. HaveRooms later rooms)
+        (ap (λ o. rooms_step c o (rooms_after (take i script))) after.objects ∙ sym (rooms_more [] (λ name. 0) (take i script) c)
+        ∙ sym (ap rooms_after at)) (serves.rooms (rooms_after (take i script)) after.rooms);
     least = omega (arith, serves.least, after.least);
     costs = subst (λ n. CostsGiven n 0 (credits_of later) start next) cost_more
         (costs_then far (cost_of (take i script)) cost 0 (credits_of things) (credits_of later) start now next (Ok tt) (Ok tt)

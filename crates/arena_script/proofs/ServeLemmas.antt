@@ -2,12 +2,13 @@
 use Rattle.std.proofs.Common.{◌≡◌, ◌≢◌, ℕ, ◌-◌, ◌≤◌, refl, sym, ap, ◌∙◌, subst, arith, Bool, true, false, Option, Some, None, Result, Ok, Err, inl, inr, [], ◌∷◌, eqb-true}
 use Rattle.std.specs.Prelude.{IfSome, ◌==◌, ◌||◌, if◌then◌else◌, IsTrue}
 use Rattle.std.specs.Option.{option_map}
+use Rattle.arena_rules.specs.State.{State, used_bytes}
 use Rattle.arena_chunks.specs.Memory.{Memory}
 use Rattle.arena_chunks.specs.Source.{View}
 use Rattle.arena_chunks.proofs.Layers.{blocks_turned}
 use Rattle.arena_items.specs.declared.room.AllocError.{AllocError}
 use Rattle.arena_items.specs.declared.room.AllocError.TheVariants.{OutOfMemory}
-use Rattle.script_rules.specs.Objects.{get, bind, unbind, are_rising, Objects, AreObjects}
+use Rattle.script_rules.specs.Objects.{get, bind, unbind, are_rising, Object, AList, AText, ASet, AMap, AValue, Objects, AreObjects}
 use Rattle.script_rules.specs.Effects.{effect}
 use Rattle.script_rules.specs.Effects as effects
 use Rattle.script_rules.specs.Machine.{Answer, settle, step}
@@ -17,7 +18,8 @@ use Rattle.script_rules.specs.declared.commands.ScriptReply.TheVariants.{Done}
 use Rattle.script_rules.proofs.EntryLemmas.{rising_bind, rising_unbind, total_get, total_bind, total_unbind}
 use Rattle.script_rules.proofs.LookupLemmas.{get_bind, get_unbind, same_by_get}
 use Rattle.script_rules.proofs.RunLemmas.{step_keeps}
-use Rattle.arena_script.specs.Things.{Things, IsThingIn, object_in, objects_in, block_of, blocks_of, seen, AreHeldApart, AreThings, size_of, credit_of, credit_held}
+use Rattle.arena_script.specs.Things.{Things, IsThingIn, object_in, objects_in, block_of, blocks_of, seen, AreHeldApart, AreThings, size_of, size_held, credit_of, credit_held}
+use Rattle.arena_script.specs.Rooms.{Rooms, room_of, room_in, room_held, rooms_then, rooms_step, HaveRooms}
 use Rattle.arena_script.specs.Wants.{tells_much, takes_room}
 use Rattle.arena_script.specs.Acts.{far, GivesThing, GivesNothing, HasNoPlace, Acts, CostsGiven, CostsRefused}
 use Rattle.arena_script.specs.Serves.{Serves, Stops, ServesOrStops, Settles, credits_of, KeepsKind}
@@ -150,6 +152,37 @@ module _ {command : Command} {things : Things} {old new : View} {name : ℕ} {t 
   kind_stays : KeepsKind old.memory new.memory
   kind_stays = record { is_growing = gives.frame.is_growing; allocated = gives.frame.allocated }
 
+  -- The text that the name has now has the capacity that the command determines, as have those of all other names.
+  room_is : (cap : ℕ) → IfSome (get things name) (λ u. room_in u ≡ cap)
+      → room_in t ≡ room_of (object_in new.memory t) (get before name) cap
+  room_is cap was = gives.room ∙ same (get things name) was
+      ∙ ap (λ o. room_of (object_in new.memory t) o cap) (sym (get_mapped old.memory things name))
+    where
+      none : (object : Object) (n k : ℕ) → room_of object None n ≡ room_of object None k
+      none (AList items) n k = refl
+      none (AText bytes) n k = refl
+      none (ASet capacity bits) n k = refl
+      none (AMap entries) n k = refl
+      none (AValue value) n k = refl
+
+      same : (o : Option Thing) → IfSome o (λ u. room_in u ≡ cap)
+          → room_of (object_in new.memory t) (option_map (object_in old.memory) o) (room_held o)
+          ≡ room_of (object_in new.memory t) (option_map (object_in old.memory) o) cap
+      same None is = none (object_in new.memory t) 0 cap
+      same (Some u) is = ap (room_of (object_in new.memory t) (Some (object_in old.memory u))) is
+
+  rooms_given : (rooms : Rooms) → HaveRooms things rooms → HaveRooms later (rooms_step command before rooms)
+  rooms_given rooms have q =
+      subst (λ e. IfSome (get later q) (λ u. room_in u ≡ rooms_then e before rooms q))
+      (sym (effect_seen command old.memory things ∙ gives.effect_is))
+      (subst (λ o. IfSome o (λ u. room_in u
+      ≡ (if q == name then room_of (object_in new.memory t) (get before name) (rooms name) else rooms q))) (sym (get_bind things name t q))
+      (elim (q == name) as (λ b. IfSome (if b then Some t else get things q) (λ u. room_in u
+      ≡ (if b then room_of (object_in new.memory t) (get before name) (rooms name) else rooms q))) [
+        | true ↦ room_is (rooms name) (have name)
+        | false ↦ have q
+      ]))
+
   -- the credits of the other things stay
   costs_all : (kept : ℕ) → kept ≤ credits_of later → CostsGiven gives.cost (credits_of things) kept old new
   costs_all kept less =
@@ -162,6 +195,7 @@ module _ {command : Command} {things : Things} {old new : View} {name : ℕ} {t 
     reply_is = sym (ap (λ (a : Answer). a.reply) answer_is);
     objects = objects_then;
     are = changed_things changed (subst AreObjects (sym objects_then) (step_keeps command before are.objects));
+    rooms = rooms_given;
     least = omega (arith, gives.least, total_bind size_of things name t are.rising);
     costs = subst (λ n. CostsGiven n (credits_of things) (credits_of later) old new) (sym (ap (λ (a : Answer). a.cost) answer_is))
         (costs_all (credits_of later) (omega arith));
@@ -174,6 +208,7 @@ module _ {command : Command} {things : Things} {old new : View} {name : ℕ} {t 
       let costs = costs_all 0 (omega arith) in record {
         fits = λ no. cc;
         taken = or_right (tells_much command) (takes_room command) (gives.taken none);
+        least = let empty : size_held (get things name) ≡ 0 = ap size_held none in omega (arith, gives.least, empty);
         costs = subst (λ n. CostsRefused n (credits_of things) 0 old new OutOfMemory) (sym (ap (λ (a : Answer). a.cost) answer_is))
             (costs_exhausted costs);
         asked = λ k no. absurd (cc);
@@ -195,6 +230,8 @@ module _ (command : Command) (a : View) {things : Things} (are : AreThings a.mem
         reply_is = sym (ap (λ (x : Answer). x.reply) answer);
         objects = sym (ap (λ (x : Answer). x.objects) answer);
         are = are;
+        rooms = λ rooms have q. subst (λ e. IfSome (get things q) (λ u. room_in u ≡ rooms_then e here rooms q))
+            (sym (effect_seen command a.memory things ∙ is)) (have q);
         least = omega arith;
         costs = nothing_given _ _ _ a a (still a) (omega arith);
         kind = same_kind a;
@@ -221,11 +258,21 @@ module _ (command : Command) (a : View) {things : Things} (are : AreThings a.mem
     objects_left = objects_are left (unbind here name) (rising_unbind here name are.objects.rising) (get_unbind here name)
         ∙ sym (ap (λ (x : Answer). x.objects) gone)
 
+    rooms_left : (rooms : Rooms) → HaveRooms things rooms → HaveRooms (unbind things name) (rooms_step command here rooms)
+    rooms_left rooms have q = subst (λ e. IfSome (get (unbind things name) q) (λ u. room_in u ≡ rooms_then e here rooms q))
+        (sym (effect_seen command a.memory things ∙ is))
+        (subst (λ o. IfSome o (λ u. room_in u ≡ rooms q)) (sym (get_unbind things name q))
+        (elim (q == name) as (λ b. IfSome (if b then None else get things q) (λ u. room_in u ≡ rooms q)) [
+          | true ↦ tt
+          | false ↦ have q
+        ]))
+
     pub let_go_serves : Serves command a a things (unbind things name) Done
     let_go_serves = record {
       reply_is = sym (ap (λ (x : Answer). x.reply) gone);
       objects = objects_left;
       are = changed_things left (subst AreObjects (sym objects_left) (step_keeps command here are.objects));
+      rooms = rooms_left;
       least = omega (arith, total_unbind size_of things name);
       costs = nothing_given _ _ _ a a (still a) (omega (arith, total_unbind credit_of things name));
       kind = same_kind a;
@@ -241,6 +288,7 @@ nothing_stops {command} {things} {old} {new} {e} gives =
     ap (settle before) (effect_seen command old.memory things ∙ gives.effect_is) in record {
       fits = gives.fits;
       taken = or_right (tells_much command) (takes_room command) gives.taken;
+      least = omega (arith, ap (λ (s : State). used_bytes s) gives.same);
       costs = subst (λ n. CostsRefused n (credits_of things) 0 old new e) (sym (ap (λ (a : Answer). a.cost) answer))
           (costs_beside far gives.cost (credit_held (get things gives.name)) (credit_held (get things gives.name)) (credits_of things) 0
           (credits_of things - credit_held (get things gives.name)) old new (Err e)
@@ -256,6 +304,7 @@ untold_stops : {command : Command} {things : Things} {old : View} → IsTrue (te
 untold_stops {command} {things} {old} much = record {
   fits = λ no. cc;
   taken = ap (λ b. b || takes_room command) much;
+  least = omega arith;
   costs = costs_exhausted (nothing_given (step command (objects_in old.memory things)).cost (credits_of things) 0 old old (still old)
       (omega arith));
   asked = λ k no. absurd (cc);

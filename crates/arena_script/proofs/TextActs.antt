@@ -1,5 +1,5 @@
 -- What commands on texts do.
-use Rattle.std.proofs.Common.{IsTrue, Result, inl, inr, ◌≡◌, ℕ, ◌+◌, ◌*◌, ◌^◌, ◌<◌, ◌≤◌, refl, ap, ◌∙◌, arith, true, false, Ok, Err, None, List, [], ◌∷◌, ◌++◌, length, length-append}
+use Rattle.std.proofs.Common.{IsTrue, Result, inl, inr, ◌≡◌, ℕ, ◌+◌, ◌-◌, ◌*◌, ◌^◌, ◌<◌, ◌≤◌, refl, sym, ap, ◌∙◌, arith, true, false, Ok, Err, Some, None, List, [], ◌∷◌, ◌++◌, length, length-append}
 use Rattle.std.specs.Prelude.{nat_lt}
 use Rattle.std.specs.List.{list_any}
 use Rattle.std.proofs.lemmas.Bool.Decides.{nat_tests}
@@ -21,6 +21,7 @@ use Rattle.script_rules.specs.declared.commands.Command.TheVariants.{MakeText, B
 use Rattle.script_rules.specs.declared.commands.ScriptReply.TheVariants.{Done, CapacityOverflow}
 use Rattle.arena_script.specs.Things.{Things, seen, credit_of}
 use Rattle.arena_script.specs.Wants.{takes_room}
+use Rattle.arena_script.specs.Rooms.{text_room}
 use Rattle.arena_script.specs.Asks.{asks, longer_text}
 use Rattle.arena_script.specs.Acts.{Acts, GivesThing, GivesNothing}
 use Rattle.arena_script.specs.declared.act.Act.{Act}
@@ -91,12 +92,18 @@ module _ (rule : GrowthRule) (old new : View) (u : StringBuilder) {things : Thin
   paid : IsPaid 1 1 t.cap change (4 * n) (credit_of (thing.Text t)) credit × IsRoomFor (t.len + n) (capacity_after change t.cap)
   paid = text_paid rule t n h.held small
 
+  capacity_is : (bytes : List ℕ) → n ≡ length bytes - length (builder_bytes old.memory t)
+      → capacity_after change t.cap ≡ text_room bytes (Some (AText (builder_bytes old.memory t))) t.cap
+  capacity_is bytes added = λ i. capacity_after (amortised_growth t.cap (counted i) (added i)) t.cap
+
   pub put_gives : Grows old new t change list u (Ok tt) → GivesThing command things old new name (thing.Text u) Done
   put_gives grows =
       let place = text_place rule t n h.held small in
       let longer : length list ≡ t.len + n = omega (arith, puts.longer, counted) in
       exchanged {cost = 4 * n} h (rw grows.bytes_are (put_given h puts low counted fits)) (record {
         held = record { held = grows.held; room = rw (grows.cap, grows.len, longer) paid.1 };
+        room = grows.cap ∙ capacity_is (builder_bytes new.memory u)
+            (omega (arith, ap (λ (bytes : List ℕ). length bytes) grows.bytes_are, longer, counted));
         least = grown_least old new t.block 1 1 t.cap (λ (x : Unit {0}). u.block) (4 * n) (credit_of (thing.Text t)) credit one place
             (omega arith) change tt paid.0 (omega (arith, grows.held.place.of_size, grows.cap)) grows.made;
         costs = rw (grows.cap, grows.len, longer) (grown_costs old new t.block 1 1 t.cap (λ (x : Unit {0}). u.block) (4 * n)
@@ -124,6 +131,7 @@ byte_acts name byte things old new (Ok (act.Gives given thing reply)) acts = rec
   effect_is = acts.effect_is;
   taken = acts.taken;
   held = acts.held;
+  room = acts.room;
   least = acts.least;
   costs = acts.costs;
   frame = acts.frame;
@@ -152,6 +160,7 @@ module _ (things : Things) (old : View) (name : ℕ) (none : get things name ≡
   unfolding effect
   made_text = let no_bytes : t.block.size ≡ 0 = ap (λ (b : Block). b.size) block in made none refl (rw (none, empty) refl) (record {
     held = record { held = held; room = omega (arith, len, cap) };
+    room = cap ∙ sym (ap (λ (bytes : List ℕ). length bytes) empty);
     least = omega (arith, no_bytes);
     costs = nothing_given 32 0 _ old old (still old) (rw (len, cap) (omega arith));
     frame = (empty_after old.memory old.memory [] [] [] t.block no_bytes).1 (frame_reflexive old.memory []);

@@ -74,13 +74,17 @@ module _ (old new : View) (other : ℕ) {things : Things} {name : ℕ} {t : Stri
       room = omega arith;
     }
 
+    bytes_same : builder_bytes new.memory (now copy) ≡ builder_bytes old.memory t
+    bytes_same = ap (λ (bs : List ℕ). take t.len bs) (copies.made.means ∙ bytes_are)
+        ∙ take_all t.len (builder_bytes old.memory t) (omega (arith, count))
+
     text_is : object_in new.memory (thing.Text (now copy)) ≡ object_in old.memory (thing.Text t)
-    text_is = ap (λ (bs : List ℕ). AText (take t.len bs)) (copies.made.means ∙ bytes_are)
-        ∙ ap AText (take_all t.len (builder_bytes old.memory t) (omega (arith, count)))
+    text_is = ap AText bytes_same
 
     pub text_copy_gives : GivesThing (CopyTo name other) things old new other (thing.Text (now copy)) Done
     text_copy_gives = copy_gives h none (ap (λ k. 32 + 4 * k) (sym count)) (thing.Text (now copy)) text_is (record {
       held = text_held;
+      room = count ∙ sym (ap (λ (bs : List ℕ). length bs) bytes_same);
       least = omega (arith, is_taken.least, is_taken.of_size, ap (λ (b : Block). b.size) own);
       costs = is_taken.costs;
       frame = subst (λ bs. Frame old.memory new.memory [] bs) (is_taken.is ∙ ap (λ (b : Block). b ∷ []) (sym own)) copies.placed.frame;

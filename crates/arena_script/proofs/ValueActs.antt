@@ -44,6 +44,7 @@ store_gives {things} {old} {now} h writes source held is =
     let same : SamePlaces old now = record { state = writes.state; statistics = writes.statistics; source = source } in
     exchanged h (rw (h.found, is) refl) (record {
       held = held;
+      room = refl;
       least = omega (arith, same_used old now same);
       costs = nothing_given 0 _ 0 old now same (omega arith);
       frame = writes.frame;
@@ -66,6 +67,7 @@ module _ {command : Command} {things : Things} {old new : View} {name value : �
   pub made_gives : {b : Box ℕ} → Boxes long old new value (Ok b) → GivesThing command things old new name (thing.Value b) Done
   made_gives {b} boxes = made none taken (rw boxes.value given) (record {
     held = boxes.held;
+    room = refl;
     least = omega (arith, placed_least old new 8 8 b.block layout boxes.placed, boxes.held.of_size);
     costs = block_given old new new 8 8 15 0 0 one layout (omega arith) (omega arith) (omega arith) (still new) b.block boxes.placed;
     frame = boxes.placed.1.outcome.frame;

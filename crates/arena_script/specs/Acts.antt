@@ -14,6 +14,7 @@ use Rattle.script_rules.specs.Effects as effects
 use Rattle.script_rules.specs.declared.commands.Command.{Command}
 use Rattle.script_rules.specs.declared.commands.ScriptReply.{ScriptReply}
 use Rattle.arena_script.specs.Things.{Things, block_of, blocks_of, IsThingIn, object_in, seen, size_of, size_held, credit_of, credit_held}
+use Rattle.arena_script.specs.Rooms.{room_of, room_in, room_held}
 use Rattle.arena_script.specs.Asks.{asks}
 use Rattle.arena_script.specs.Wants.{tells_much, takes_room}
 use Rattle.arena_script.specs.declared.thing.Thing.{Thing}
@@ -44,12 +45,13 @@ CostsRefused cost before after old new e = Costs {X = Unit {0}} far cost before 
 
 -- A call does what the plain machine does: a name gets a thing that represents the object, in a block of its own that
 -- replaces the one before. Its bytes come into use, and with its credit they are at most the cost and the credit
--- before. A new name takes room.
+-- before. A text has the capacity that the growth rule says. A new name takes room.
 pub record GivesThing (command : Command) (things : Things) (old new : View) (name : ℕ) (thing : Thing) (reply : ScriptReply) : Type 0 where
   pub cost : ℕ
   pub effect_is : effect command (seen old.memory things) ≡ effects.Gives name (object_in new.memory thing) reply cost
   pub taken : get things name ≡ None → IsTrue (takes_room command)
   pub held : IsThingIn new.memory thing
+  pub room : room_in thing ≡ room_of (object_in new.memory thing) (seen old.memory things name) (room_held (get things name))
   pub least : used old + size_of thing ≤ used new + size_held (get things name)
   pub costs : CostsGiven cost (credit_held (get things name)) (credit_of thing) old new
   pub frame : Frame old.memory new.memory (blocks_of (get things name)) (block_of thing ∷ [])

@@ -1,5 +1,6 @@
 pub mod Kinds
 pub mod Things
+pub mod Rooms
 pub mod ThingLaws
 pub mod Wants
 pub mod Asks

@@ -32,6 +32,10 @@ pub record Replies (script : List Command) (outcome : Outcome) : Type 0 where
 abbrev pub cost_with_next : List Command → Outcome → ℕ
 cost_with_next script outcome = cost_of_first (length outcome.replies + 1) script
 
+-- the objects after the commands that have replies
+abbrev pub objects_so_far : List Command → Outcome → Objects
+objects_so_far script outcome = (run (take (length outcome.replies) script)).objects
+
 -- No command was served, since memory ran out for the replies. Nothing changed.
 pub record IsUnbegun (old new : View) (outcome : Outcome) : Type 0 where
   pub exhausted : outcome.ended ≡ ended.OutOfMemory
@@ -42,8 +46,8 @@ pub record IsUnbegun (old new : View) (outcome : Outcome) : Type 0 where
 abbrev pub IsStoppedAt : List Command → Outcome → Type 0
 IsStoppedAt script outcome = IsSomeAnd (slice_get script (length outcome.replies)) (λ c. IsTrue (takes_memory c))
 
--- The commands that were served left things in the arena, and the next one asked it for its block: the arena refused,
--- after its source refused `k` requests and granted none.
+-- The commands that were served left things in the arena, with the capacities that these commands determine, and the
+-- next one asked it for its block: the arena refused, after its source refused `k` requests and granted none.
 pub record IsDenied (script : List Command) (outcome : Outcome) (old new : View) : Type 0 where
   pub before : View
   pub things : Things
@@ -58,6 +62,7 @@ pub record IsRun (script : List Command) (old new : View) (outcome : Outcome) : 
   pub used : outcome.used ≡ used new
   pub most : outcome.used ≤ cost_with_next script outcome
   pub least : outcome.ended ≡ ended.Done → need (run script).objects ≤ outcome.used
+  pub so_far : need (objects_so_far script outcome) ≤ outcome.used
   pub full : outcome.ended ≡ ended.Full → IsFull (cost_with_next script outcome) old
   pub refused : outcome.ended ≡ ended.Refused
       → IsStarvedWithin (cost_with_next script outcome) old.memory.state new.memory.state old.source new.source

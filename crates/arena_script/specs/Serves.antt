@@ -12,6 +12,7 @@ use Rattle.script_rules.specs.declared.commands.Command.{Command}
 use Rattle.script_rules.specs.declared.commands.ScriptReply.{ScriptReply}
 use Rattle.script_rules.specs.declared.commands.ScriptReply.TheVariants.{Done}
 use Rattle.arena_script.specs.Things.{Things, AreThings, objects_in, size_of, credit_of}
+use Rattle.arena_script.specs.Rooms.{Rooms, rooms_step, rooms_after, HaveRooms}
 use Rattle.arena_script.specs.Asks.{asks}
 use Rattle.arena_script.specs.Acts.{used, CostsGiven, CostsRefused, HasNoPlace}
 use Rattle.arena_script.specs.Wants.{takes_memory}
@@ -31,21 +32,23 @@ pub record KeepsKind (old new : Memory) : Type 0 where
   pub is_growing : new.state.is_growing ≡ old.state.is_growing
   pub allocated : old.state.is_growing ≡ false → allocated_bytes new.state ≡ allocated_bytes old.state
 
--- A command was served as by the plain machine. At least the bytes of its block came into use, and with all credits
--- they are at most the credits before and its cost.
+-- A command was served as by the plain machine, and texts have the capacities that it leaves. At least the bytes of its
+-- block came into use, and with all credits they are at most the credits before and its cost.
 pub record Serves (command : Command) (old new : View) (things later : Things) (reply : ScriptReply) : Type 0 where
   pub reply_is : reply ≡ (step command (objects_in old.memory things)).reply
   pub objects : objects_in new.memory later ≡ (step command (objects_in old.memory things)).objects
   pub are : AreThings new.memory later
+  pub rooms : (before : Rooms) → HaveRooms things before → HaveRooms later (rooms_step command (objects_in old.memory things) before)
   pub least : used old + sizes_of later ≤ used new + sizes_of things
   pub costs : CostsGiven (step command (objects_in old.memory things)).cost (credits_of things) (credits_of later) old new
   pub kind : KeepsKind old.memory new.memory
 
 -- A command that takes memory wasn't served: the arena was asked for its block, for which the credits and the cost
--- would have paid, and refused it; or memory ran out.
+-- would have paid, and refused it; or memory ran out. Nothing was freed.
 pub record Stops (command : Command) (old new : View) (things : Things) (e : AllocError) : Type 0 where
   pub fits : e ≢ CapacityOverflow
   pub taken : IsTrue (takes_memory command)
+  pub least : used old ≤ used new
   pub costs : CostsRefused (step command (objects_in old.memory things)).cost (credits_of things) 0 old new e
   pub asked : (k : ℕ) → e ≡ AllocErr k → AsksFor (asks command old.memory things ∷ []) old new [] (Some e)
   pub denied : (k : ℕ) → e ≡ AllocErr k
@@ -63,11 +66,13 @@ Settles (Gives name thing reply) old new (Ok told) = (told ≡ reply) × (new �
 Settles (Gives name thing reply) old new (Err e) = (e ≡ OutOfMemory) × (get old name ≡ None)
 Settles (LetsGo name) old new result = (result ≡ Ok Done) × (new ≡ unbind old name)
 
--- After the first `i` commands of a script, things represent the plain machine's objects. Their bytes are in use, and
--- the bytes in use and the credits are at most what the commands cost.
+-- After the first `i` commands of a script, things represent the plain machine's objects, and texts have the capacities
+-- that the commands determine. Their bytes are in use, and the bytes in use and the credits are at most what the commands
+-- cost.
 pub record IsAfter (script : List Command) (start now : View) (things : Things) (i : ℕ) : Type 0 where
   pub are : AreThings now.memory things
   pub objects : objects_in now.memory things ≡ (run (take i script)).objects
+  pub rooms : HaveRooms things (rooms_after (take i script))
   pub least : sizes_of things ≤ used now
   pub costs : CostsGiven (cost_of (take i script)) 0 (credits_of things) start now
   pub kind : KeepsKind start.memory now.memory

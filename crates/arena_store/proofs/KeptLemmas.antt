@@ -6,9 +6,8 @@ use Rattle.std.proofs.lemmas.Bool.Decides.{nat_tests}
 use Rattle.std.proofs.lemmas.List.Elements.{All-head, All-tail, All-push, All-set, All-take, recursion_from_All}
 use Rattle.std.proofs.lemmas.List.Sums.{sum_by-cons}
 use Rattle.std.proofs.Math.Seq.{get_or-append_seam}
-use Rattle.std.proofs.lemmas.List.Folds.{list_any_none, list_any_more}
-use Rattle.std.proofs.lemmas.Bool.{or_left, or_right}
-use Rattle.std.proofs.lemmas.List.{length-set, length-append}
+use Rattle.std.proofs.lemmas.List.Folds.{list_any_none, list_any_more, list_any_at}
+use Rattle.std.proofs.lemmas.List.{length-set, length-append, get_or_default}
 use Rattle.arena_rules.specs.State.{used_length, is_used_by}
 use Rattle.arena_region.specs.Bytes.{bytes, written_from}
 use Rattle.arena_store.specs.Stored.{stored_chunk, IsOrdered, IsSearchable, IsLastBelow, HasPart, part_of}
@@ -138,12 +137,7 @@ kept_part bases kept items i addr n k same view at part =
 
 -- the item at an index, whatever the default is
 pub item_at : {X : Type 0} (xs : List X) (i : ℕ) (d : X) → i < length xs → get_or xs i d ≡ get_or xs i (get_or xs i d)
-item_at {X} xs i d below = default_at xs i d (get_or xs i d) below
-  where
-    default_at : (xs : List X) (i : ℕ) (d e : X) → i < length xs → get_or xs i d ≡ get_or xs i e
-    default_at [] i d e below = absurd (omega arith)
-    default_at (x ∷ xs) zero d e below = refl
-    default_at (x ∷ xs) (suc i) d e below = default_at xs i d e (omega arith)
+item_at xs i d below = get_or_default xs i d (get_or xs i d) below
 
 pub nothing : Kept
 nothing = record { bytes = bytes [] 0; used = 0 }
@@ -297,11 +291,6 @@ row_has bases kept items i base end addr n k c row at sized here =
 
 -- ---- Which of them has a block
 
-pub any_found : {X : Type 0} (p : X → Bool) (xs : List X) (i : ℕ) (d : X) → i < length xs → p (get_or xs i d) ≡ true → list_any p xs ≡ true
-any_found p [] i d below is = absurd (omega arith)
-any_found p (x ∷ xs) zero d below is = or_left (p x) (list_any p xs) is
-any_found p (x ∷ xs) (suc i) d below is = or_right (p x) (list_any p xs) (any_found p xs i d (omega arith) is)
-
 pub none_more : {X : Type 0} (p : X → Bool) (xs : List X) (i : ℕ) (d : X) → i < length xs → p (get_or xs i d) ≡ false
     → list_any p (take i xs) ≡ false → list_any p (take (i + 1) xs) ≡ false
 none_more p xs i d below is before = list_any_more p xs i d below ∙ rw (before, is) refl
@@ -347,7 +336,7 @@ number_in bases kept items addr n base len k answer table view is some at here s
     (λ d. ap (λ (l : List StoredChunk). get_or l (n - 1) d) (sym view) ∙ chunk_at bases kept (n - 1) d k table.pairs within
     ∙ ap (chunk_of (slice_index bases (n - 1))) (sym here)) in
     let test : nat_le c.base addr ≡ true = grind (arith, nat_tests) in
-    let any = any_found (λ (x : StoredChunk). nat_le x.base addr) (chunks_of bases kept) (n - 1) c (omega (arith, all, within))
+    let any = list_any_at (λ (x : StoredChunk). nat_le x.base addr) (chunks_of bases kept) (n - 1) c (omega (arith, all, within))
     (ap (λ (x : StoredChunk). nat_le x.base addr) (ap (λ (l : List StoredChunk). get_or l (n - 1) c) view ∙ found_at c) ∙ test) in
     let last = subst (λ (l : List StoredChunk). IsLastBelow l addr (n - 1)) view (split_last bases kept addr n table any is).1 in
     let chunk : last.chunk ≡ c =

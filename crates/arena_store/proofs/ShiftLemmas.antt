@@ -89,7 +89,7 @@ moved_back xs from to n m l k target up some part is =
     same_number_lists (moved ys (from + l) (to + l) k) (moved xs (from + l) (to + l) (n - l)) (last ∙ sized ∙ sym whole) (λ i below.
     grind (arith, cases_lt i (to + l), cases_lt i (to + m), by_index))
 
--- The same, where that part is all that remained.
+-- Moving the last part of a range and then its first one moves the range.
 pub moved_first : (xs : List ℕ) (from to n m : ℕ) → to + n ≤ length xs → from ≤ to → m ≤ n
     → moved (moved xs (from + m) (to + m) (n - m)) from to m ≡ moved xs from to n
 moved_first xs from to n m target up some = simp unary_clauses at (moved_back xs from to n m 0 m target up some (omega arith) (omega arith))

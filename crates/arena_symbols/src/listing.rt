@@ -28,7 +28,7 @@ pub(crate) fn put_listed<K: ArenaKey, T: Item, C: ChunkSource>(
     growth_costs();
     vector_costs::<T, ()>();
     // This shows the proof that the least alignment is 1.
-    let _ = a.min_align();
+    a.known();
     let at = list.len();
     list.push(a, value)?;
     match map.insert_at(a, look, key, at) {

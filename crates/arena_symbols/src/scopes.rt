@@ -109,7 +109,7 @@ impl Scopes {
         growth_costs();
         vector_costs::<u32, ()>();
         // This shows the proof that the least alignment is 1.
-        let _ = a.min_align();
+        a.known();
         if self.starts.len() >= MOST_SCOPES - 1 {
             return Err(AllocError::CapacityOverflow);
         }
@@ -170,7 +170,7 @@ impl Scopes {
         ensures { Defines entry_item a.old a.new self.old self.new id value result }
     {
         // This shows the proof that the least alignment is 1.
-        let _ = a.min_align();
+        a.known();
         let content = id.to_le_bytes();
         let (hidden, look) = self.newest.search(a, &content);
         if self.is_inner(hidden) {

@@ -93,7 +93,7 @@ impl Symbols {
     {
         texts_law::<Str, u32, FxHasher>();
         // This shows the proof that the least alignment is 1.
-        let _ = a.min_align();
+        a.known();
         let (known, look) = self.search(a, text);
         if let Some(id) = known {
             return Ok(id);

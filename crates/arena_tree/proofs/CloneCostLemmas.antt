@@ -7,16 +7,15 @@ use Rattle.arena_items.specs.Denied.{Layouts}
 use Rattle.arena_items.specs.declared.room.AllocError.{AllocError}
 use Rattle.tree_rules.specs.Trees.{Exprs, NoExprs, And, Sum, Prod, Stmts, NoStmts, Then}
 use Rattle.tree_rules.specs.Trees as tree
-use Rattle.arena_tree.specs.declared.node.Node.{Node}
+use Rattle.tree_nodes.specs.declared.node.Node.{Node}
 use Rattle.arena_tree.specs.Counts.{nodes}
 use Rattle.arena_tree.specs.Spending.{Spends}
 use Rattle.arena_tree.specs.Cloning.{names_bytes, clone_bytes, below_bytes, row_bytes, RowCopyOf, TreeCopyOf}
 use Rattle.arena_tree.specs.Subtrees.{Subtree, OfExpr, OfStmt, expr_row, stmt_row, RowAt}
 use Rattle.arena_tree.proofs.CopyLayoutLemmas.{tree_copy}
-use Rattle.arena_tree.proofs.SpendingLemmas.{spends_then, spends_more, asks_of}
-use Rattle.arena_tree.proofs.RowLemmas.{Kid}
-use Rattle.arena_tree.proofs.SubtreeLemmas.{kids_it, own_bytes}
-pub use Rattle.arena_tree.proofs.SpendingLemmas.{err_spends}
+use Rattle.tree_nodes.proofs.SpendingLemmas.{spends_then, spends_more, asks_of}
+use Rattle.tree_nodes.proofs.RowLemmas.{Kid}
+use Rattle.tree_nodes.proofs.SubtreeLemmas.{kids_it, own_bytes}
 
 pub forget : {layouts : Layouts} {bytes after : ℕ} {old new : View} {e : Option AllocError} → Spends layouts bytes 0 after old new e
     → Spends layouts bytes 0 0 old new e

@@ -8,16 +8,16 @@ use Rattle.arena_vec.specs.Vecs.{vec_list}
 use Rattle.arena_vec.specs.declared.vec.Vec.{Vec}
 use Rattle.tree_rules.specs.Trees.{Num, Name, Neg, Sum, Prod, NoExprs, And, Let, Show}
 use Rattle.tree_rules.specs.Trees as tree
-use Rattle.arena_tree.specs.declared.node.Kind.{Kind}
-use Rattle.arena_tree.specs.declared.node.Kind.TheVariants as kind
-use Rattle.arena_tree.specs.declared.node.Node.{Node}
+use Rattle.tree_nodes.specs.declared.node.Kind.{Kind}
+use Rattle.tree_nodes.specs.declared.node.Kind.TheVariants as kind
+use Rattle.tree_nodes.specs.declared.node.Node.{Node}
 use Rattle.arena_tree.specs.NodeForms.{number_node}
 use Rattle.arena_tree.specs.TreesAt.{node_item, kids_of, no_kids}
 use Rattle.arena_tree.specs.Subtrees.{Subtree, OfExpr, OfStmt, SubtreeAt, RowAt, below_it, has_kids, HasRow, IsTreePlaced, IsRowBuilt}
-use Rattle.arena_tree.proofs.BuildLemmas.{HasKidsAlone, neg_placed, sum_placed, prod_placed, number_placed, name_placed}
-use Rattle.arena_tree.proofs.LinesLemmas.{show_placed, block_placed, let_node_placed}
-use Rattle.arena_tree.proofs.RowLemmas.{exprs_built, stmts_built}
-use Rattle.arena_tree.proofs.SubtreeLemmas.{kids_it, own_bytes, kids_at}
+use Rattle.tree_nodes.proofs.BuildLemmas.{HasKidsAlone, neg_placed, sum_placed, prod_placed, number_placed, name_placed}
+use Rattle.tree_nodes.proofs.LinesLemmas.{show_placed, block_placed, let_node_placed}
+use Rattle.tree_nodes.proofs.RowLemmas.{exprs_built, stmts_built}
+use Rattle.tree_nodes.proofs.SubtreeLemmas.{kids_it, own_bytes, kids_at}
 use Rattle.arena_tree.proofs.KidsLemmas.{branch}
 
 pub more_kinds : (k : Kind) → (k ≡ kind.Num → ⊥) → (k ≡ kind.Name → ⊥) → has_kids k ≡ true

@@ -5,11 +5,11 @@ use Rattle.arena_items.specs.Denied.{TextOf}
 use Rattle.arena_items.specs.Values.{text_bytes}
 use Rattle.tree_rules.specs.Trees.{Exprs, NoExprs, And, Num, Name, Neg, Sum, Prod, Let, Show, Stmts, NoStmts, Then}
 use Rattle.tree_rules.specs.Trees as tree
-use Rattle.arena_tree.specs.declared.node.Kind.TheVariants as kind
-use Rattle.arena_tree.specs.declared.node.Node.{Node}
+use Rattle.tree_nodes.specs.declared.node.Kind.TheVariants as kind
+use Rattle.tree_nodes.specs.declared.node.Node.{Node}
 use Rattle.arena_tree.specs.Cloning.{CopiesOf, StmtsCopyOf, TreeCopyOf, BelowCopyOf, KidsCopyOf, RowCopyOf}
 use Rattle.arena_tree.specs.Subtrees.{Subtree, OfExpr, OfStmt, SubtreeAt, expr_row, stmt_row, has_kids}
-use Rattle.arena_tree.proofs.SubtreeLemmas.{kids_it, true_false}
+use Rattle.tree_nodes.proofs.SubtreeLemmas.{kids_it, true_false}
 
 -- ---- Rows
 

@@ -8,7 +8,7 @@ use Rattle.arena_exchange.proofs.Layers.{all_turned}
 use Rattle.arena_items.specs.Footprint.{AreReadable, Agree}
 use Rattle.arena_tree.specs.Folding.{IsWithin}
 use Rattle.arena_tree.specs.FoldingParts.{IsClear, WritesIn, Shrinks}
-use Rattle.arena_tree.proofs.StayLemmas.{stay_all}
+use Rattle.tree_nodes.proofs.StayLemmas.{stay_all}
 
 -- ---- A list's own block, the blocks of its first tree, and those of the others
 

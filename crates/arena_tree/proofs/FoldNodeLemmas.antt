@@ -9,15 +9,15 @@ use Rattle.arena_items.specs.Footprint.{AreReadable}
 use Rattle.arena_vec.specs.Vecs.{vec_list}
 use Rattle.arena_vec.specs.declared.vec.Vec.{Vec}
 use Rattle.tree_rules.specs.Trees.{Num, Name, Let, folded, all_folded, folded_stmts}
-use Rattle.arena_tree.specs.declared.node.Node.{Node}
+use Rattle.tree_nodes.specs.declared.node.Node.{Node}
 use Rattle.arena_tree.specs.TreesAt.{node_item, kids_of, kids_in, AreLean}
 use Rattle.arena_tree.specs.Subtrees.{Subtree, OfExpr, OfStmt, SubtreeAt, lists_at, texts_at, below_it, row_lists, row_texts, has_kids}
 use Rattle.arena_tree.specs.FoldingParts.{row_folds, IsWhole, IsRowWhole, CanFoldRow, StandOn, Becomes, IsFolded, FoldsRow, kids_folded, ruled, or_stays, once_if, IsRule}
 use Rattle.arena_tree.proofs.FoldBlockLemmas.{shrinks_none, shrinks_then, shrinks_own, writes_none, agree_beside}
 use Rattle.arena_tree.proofs.FoldRowLemmas.{held_still}
 use Rattle.arena_tree.proofs.KidsLemmas.{branch, node_on}
-use Rattle.arena_tree.proofs.LeanLemmas.{node_lean, own_lean, below_lean}
-use Rattle.arena_tree.proofs.SubtreeLemmas.{kids_it, own_texts, kids_at, true_false}
+use Rattle.tree_nodes.proofs.LeanLemmas.{node_lean, own_lean, below_lean}
+use Rattle.tree_nodes.proofs.SubtreeLemmas.{kids_it, own_texts, kids_at, true_false}
 
 -- ---- A node with no children
 

@@ -10,16 +10,16 @@ use Rattle.arena_chunks.proofs.Layers.{apart_each}
 use Rattle.arena_vec.specs.Changes.{Becomes as VecBecomes}
 use Rattle.arena_vec.specs.Vecs.{IsVecIn, vec_list}
 use Rattle.arena_vec.specs.declared.vec.Vec.{Vec}
-use Rattle.arena_tree.specs.declared.node.Node.{Node}
+use Rattle.tree_nodes.specs.declared.node.Node.{Node}
 use Rattle.arena_tree.specs.TreesAt.{node_item, AreLean}
 use Rattle.arena_tree.specs.TreeLaws.{list_same, list_held}
 use Rattle.arena_tree.specs.Subtrees.{Subtree, SubtreeAt, lists_at, texts_at, below_it, RowAt, row_lists, row_texts, row_nodes}
 use Rattle.arena_tree.specs.FoldingParts.{IsClear, IsWhole, IsRowWhole, CanFold, StandsOn, WritesIn, IsFolded, AreFolded, AreFoldedFrom}
-use Rattle.arena_tree.proofs.SubtreeLemmas.{row_length}
-use Rattle.arena_tree.proofs.WalkLemmas.{some_node, none_node, list_len}
+use Rattle.tree_nodes.proofs.SubtreeLemmas.{row_length}
+use Rattle.tree_nodes.proofs.WalkLemmas.{some_node, none_node, list_len}
 use Rattle.arena_tree.proofs.FoldBlockLemmas.{Split, split_of, shrinks_none, shrinks_both, beside, writes_none, writes_more, writes_then, agree_beside}
 use Rattle.arena_tree.proofs.KeptLemmas.{row_both, on_beside, row_on_beside, on_lean_beside, row_on_lean_beside}
-use Rattle.arena_tree.proofs.LeanLemmas.{lean_both, lean_first, lean_behind}
+use Rattle.tree_nodes.proofs.LeanLemmas.{lean_both, lean_first, lean_behind}
 
 pub held_still : (old new : Memory) (v : Vec Node) → new.state ≡ old.state → IsVecIn node_item old v → IsVecIn node_item new v
 held_still old new v same held = list_held old new v held (rw same held.place.readable)

@@ -3,16 +3,16 @@ use Rattle.std.proofs.Common.{◌≡◌, ℕ, ◌^◌, ap, refl, subst, ◌∙�
 use Rattle.std.specs.Prelude.{slice_get, IfSome, nat_lt, if◌then◌else◌}
 use Rattle.arena_chunks.specs.Memory.{Memory}
 use Rattle.tree_rules.specs.Trees.{Expr, Num, Neg, Sum, Prod, Exprs, NoExprs, And, Let, front_number, numbers_of, sum, product, reckoned, one_if_reckoned}
-use Rattle.arena_tree.specs.declared.node.Kind.{Kind}
-use Rattle.arena_tree.specs.declared.node.Kind.TheVariants as kind
-use Rattle.arena_tree.specs.declared.node.Node.{Node}
+use Rattle.tree_nodes.specs.declared.node.Kind.{Kind}
+use Rattle.tree_nodes.specs.declared.node.Kind.TheVariants as kind
+use Rattle.tree_nodes.specs.declared.node.Node.{Node}
 use Rattle.arena_tree.specs.TreesAt.{kids_in, IsOnly, ExprAt, ExprsAt, AreLean}
 use Rattle.arena_tree.specs.NodeForms.{number_node}
 use Rattle.arena_tree.specs.Subtrees.{Subtree, OfExpr, OfStmt, SubtreeAt, lists_at, texts_at}
 use Rattle.arena_tree.specs.FoldingParts.{Replaces, IsNegation, or_stays, once_if, IsRule, number_before, numbers_in, total_of, total_in, IsTotalNode}
 use Rattle.arena_tree.proofs.FoldBlockLemmas.{shrinks_none}
-use Rattle.arena_tree.proofs.LeanLemmas.{below_lean, number_lean}
-use Rattle.arena_tree.proofs.WalkLemmas.{some_node}
+use Rattle.tree_nodes.proofs.LeanLemmas.{below_lean, number_lean}
+use Rattle.tree_nodes.proofs.WalkLemmas.{some_node}
 
 stays : (t : Subtree) (m : Memory) (n : Node) → SubtreeAt t m n → Replaces t t m n n
 stays t m n at = record { stands = at; shrinks = shrinks_none (lists_at t m n) (texts_at t m n) }

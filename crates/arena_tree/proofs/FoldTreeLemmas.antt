@@ -16,11 +16,11 @@ use Rattle.arena_tree.specs.Subtrees.{stmt_row, HasRow}
 use Rattle.arena_tree.specs.FoldingParts.{IsRowWhole, CanFoldRow, StandOn, Shrinks, WritesIn, FoldsRow}
 use Rattle.arena_tree.specs.declared.tree.Tree.{Tree}
 use Rattle.arena_tree.proofs.GivenLemmas.{given_low}
-use Rattle.arena_tree.proofs.PartsLemmas.{Parts, First, parts_apart, stmts_parts}
+use Rattle.tree_nodes.proofs.PartsLemmas.{Parts, First, parts_apart, stmts_parts}
 use Rattle.arena_tree.proofs.FoldBlockLemmas.{shrinks_own, texts_within}
 use Rattle.arena_tree.proofs.FoldRowLemmas.{held_still}
-use Rattle.arena_tree.proofs.OneTreeLemmas.{one_stmts}
-use Rattle.arena_tree.proofs.SubtreeLemmas.{stmt_row_at, row_stmts_at, stmt_row_blocks}
+use Rattle.tree_nodes.proofs.OneTreeLemmas.{one_stmts}
+use Rattle.tree_nodes.proofs.SubtreeLemmas.{stmt_row_at, row_stmts_at, stmt_row_blocks}
 use Rattle.arena_tree.proofs.KeptLemmas.{apart_from_both}
 use Rattle.arena_tree.proofs.KidsLemmas.{stmt_row_is}
 

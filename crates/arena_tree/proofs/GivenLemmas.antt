@@ -9,8 +9,8 @@ use Rattle.arena_tree.specs.Counts.{stmt_nodes}
 use Rattle.arena_tree.specs.TreesAt.{node_item}
 use Rattle.arena_tree.specs.StmtsAt.{AreBuilt}
 use Rattle.arena_tree.specs.Given.{IsTreeIn}
-use Rattle.arena_tree.proofs.NodesLemmas.{nodes_used}
-use Rattle.arena_tree.proofs.PartsLemmas.{First, parts_pairwise, stmts_parts}
+use Rattle.tree_nodes.proofs.NodesLemmas.{nodes_used}
+use Rattle.tree_nodes.proofs.PartsLemmas.{First, parts_pairwise, stmts_parts}
 
 pub given_low : (m : Memory) (t : Tree) (h : IsTreeIn m t) → stmt_nodes h.trees < used_bytes m.state / 88 + 1
 given_low m t h = omega (arith, nodes_used h.trees m t.stmts h.held h.means h.lists)

@@ -5,16 +5,16 @@ use Rattle.arena_chunks.specs.Frame.{IsApart, AreAllApart}
 use Rattle.arena_store.specs.declared.block.Block.{Block}
 use Rattle.arena_chunks.proofs.Layers.{all_from_both}
 use Rattle.arena_exchange.proofs.Layers.{all_turned}
-use Rattle.arena_tree.specs.declared.node.Node.{Node}
+use Rattle.tree_nodes.specs.declared.node.Node.{Node}
 use Rattle.arena_tree.specs.TreesAt.{OfLists, OfTexts, expr_blocks, AreLean}
 use Rattle.arena_tree.specs.StmtsAt.{stmt_blocks}
 use Rattle.arena_tree.specs.TreeLaws.{expr_readable, expr_same, expr_again}
 use Rattle.arena_tree.specs.StmtLaws.{stmt_readable, stmt_same, stmt_again}
 use Rattle.arena_tree.specs.Subtrees.{Subtree, OfExpr, OfStmt, SubtreeAt, lists_at, texts_at, RowAt, row_lists, row_texts}
 use Rattle.arena_tree.specs.FoldingParts.{StandsOn, StandOn, WritesIn}
-use Rattle.arena_tree.proofs.PartsLemmas.{Parts, None, First, Second, expr_parts, stmt_parts}
-use Rattle.arena_tree.proofs.LeanLemmas.{lean_none, lean_both, lean_first, lean_rest, it_stays_lean}
-use Rattle.arena_tree.proofs.StayLemmas.{stay_all}
+use Rattle.tree_nodes.proofs.PartsLemmas.{Parts, None, First, Second, expr_parts, stmt_parts}
+use Rattle.tree_nodes.proofs.LeanLemmas.{lean_none, lean_both, lean_first, lean_rest, it_stays_lean}
+use Rattle.tree_nodes.proofs.StayLemmas.{stay_all}
 use Rattle.arena_tree.proofs.FoldBlockLemmas.{AreBeside}
 
 pub row_both : {t : Subtree} {ts : List Subtree} {m : Memory} {n : Node} {ns : List Node} {b q bt qt : List Block} → StandsOn t m n b bt

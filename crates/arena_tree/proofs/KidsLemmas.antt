@@ -8,12 +8,12 @@ use Rattle.arena_vec.specs.Vecs.{IsVecIn}
 use Rattle.tree_rules.specs.Trees.{Expr, Num, Name, Neg, Sum, Prod, Exprs, NoExprs, And, Let, Show, Stmts, NoStmts, Then}
 use Rattle.tree_rules.specs.Trees.{folded, all_folded, all_folds, folded_stmt, folded_stmts, folds_of_stmts}
 use Rattle.tree_rules.specs.Trees as tree
-use Rattle.arena_tree.specs.declared.node.Node.{Node}
+use Rattle.tree_nodes.specs.declared.node.Node.{Node}
 use Rattle.arena_tree.specs.Counts.{nodes, stmt_nodes}
 use Rattle.arena_tree.specs.TreesAt.{node_item, kids_of, kids_in, IsOnly, ExprAt}
 use Rattle.arena_tree.specs.Subtrees.{Subtree, OfExpr, OfStmt, SubtreeAt, below_it, expr_row, stmt_row, RowAt, row_nodes, has_kids}
 use Rattle.arena_tree.specs.FoldingParts.{folded_it, folds_of_it, row_folds, StandsOn, StandOn, with_kids, kids_folded, ruled, times_ruled}
-use Rattle.arena_tree.proofs.SubtreeLemmas.{row_exprs_at, row_stmts_at, kids_it, own_texts, kids_at, true_false}
+use Rattle.tree_nodes.proofs.SubtreeLemmas.{row_exprs_at, row_stmts_at, kids_it, own_texts, kids_at, true_false}
 
 expr_row_is : (es : Exprs) → (nodes es ≡ row_nodes (expr_row es)) × (all_folds es ≡ row_folds (expr_row es))
     × (expr_row (all_folded es) ≡ map folded_it (expr_row es))

@@ -11,10 +11,10 @@ use Rattle.tree_rules.specs.Refusals.{TreeOf}
 use Rattle.tree_rules.specs.declared.machine.Mode.TheVariants.{AtLine}
 use Rattle.tree_rules.specs.declared.refused.Refused.{Refused}
 use Rattle.tree_reader.specs.Seen.{tokens_at}
-use Rattle.arena_tree.specs.declared.node.Node.{Node}
+use Rattle.tree_nodes.specs.declared.node.Node.{Node}
 use Rattle.arena_tree.specs.StmtsAt.{AreBuilt}
 use Rattle.arena_tree.specs.LineParts.{LinesStop, AreLines}
-use Rattle.arena_tree.proofs.RowLemmas.{stmts_built}
+use Rattle.tree_nodes.proofs.RowLemmas.{stmts_built}
 use Rattle.arena_tree.proofs.TokenLemmas.{not_some, passed_from}
 
 ends_all : (size : ℕ) (ts : List Placed) → refusal_from size (state AtLine []) ts ≡ None → LinesStop ts → ts ≡ []

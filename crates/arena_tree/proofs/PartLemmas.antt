@@ -9,14 +9,14 @@ use Rattle.tree_rules.specs.declared.machine.Open.{Open}
 use Rattle.tree_rules.specs.declared.machine.Open.TheVariants.{Paren, Sign}
 use Rattle.tree_rules.specs.declared.machine.Mode.TheVariants.{AtFactor, BehindFactor}
 use Rattle.tree_rules.proofs.StepLemmas.{ended_twice}
-use Rattle.arena_tree.specs.declared.node.Kind.TheVariants as kind
-use Rattle.arena_tree.specs.declared.node.Node.{Node}
+use Rattle.tree_nodes.specs.declared.node.Kind.TheVariants as kind
+use Rattle.tree_nodes.specs.declared.node.Node.{Node}
 use Rattle.arena_tree.specs.TreesAt.{kids_of, IsPlaced}
 use Rattle.arena_tree.specs.Subtrees.{OfExpr, expr_row, IsRowBuilt}
 use Rattle.arena_tree.specs.Parts.{IsTokenAt, sign_of, signed_tree, Reads, behind_factor, at_next}
 use Rattle.arena_tree.specs.LineParts.{braces, at_line, at_value}
-use Rattle.arena_tree.proofs.BuildLemmas.{HasKidsAlone, sum_placed}
-use Rattle.arena_tree.proofs.RowLemmas.{exprs_built, exprs_more}
+use Rattle.tree_nodes.proofs.BuildLemmas.{HasKidsAlone, sum_placed}
+use Rattle.tree_nodes.proofs.RowLemmas.{exprs_built, exprs_more}
 use Rattle.arena_tree.proofs.TokenLemmas.{passed_to}
 
 -- ---- Reading

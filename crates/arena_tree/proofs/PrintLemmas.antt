@@ -6,12 +6,12 @@ use Rattle.arena_chunks.specs.Memory.{Memory}
 use Rattle.arena_items.specs.Values.{text_bytes}
 use Rattle.tree_rules.specs.Trees.{Expr, Num, Name, Neg, Sum, Prod, Exprs, NoExprs, And, AsExpr, AsTerm, AsFactor, expr_text, terms_text, more_terms_text, factors_text, more_factors_text, sum_text, product_text, Let, Show, Stmts, NoStmts, Then, stmt_text, text}
 use Rattle.tree_rules.specs.Trees as tree
-use Rattle.arena_tree.specs.declared.node.Kind.{Kind}
-use Rattle.arena_tree.specs.declared.node.Kind.TheVariants as kind
-use Rattle.arena_tree.specs.declared.node.Node.{Node}
+use Rattle.tree_nodes.specs.declared.node.Kind.{Kind}
+use Rattle.tree_nodes.specs.declared.node.Kind.TheVariants as kind
+use Rattle.tree_nodes.specs.declared.node.Node.{Node}
 use Rattle.arena_tree.specs.Subtrees.{Subtree, OfExpr, OfStmt, SubtreeAt, expr_row, stmt_row, has_kids}
 use Rattle.arena_tree.specs.Printing.{tree_text, before_kids, behind_kids, kids_stand, joint, is_taken, piece, row_text}
-use Rattle.arena_tree.proofs.SubtreeLemmas.{kids_it, true_false}
+use Rattle.tree_nodes.proofs.SubtreeLemmas.{kids_it, true_false}
 
 -- ---- Rows
 

@@ -3,11 +3,11 @@ use Rattle.std.proofs.Common.{◌≡◌, ℕ, suc, zero, ◌≤◌, ap, refl, Bo
 use Rattle.std.specs.Prelude.{slice_get}
 use Rattle.std.proofs.lemmas.List.{drop_all}
 use Rattle.arena_items.proofs.Layers.{drop_item}
-use Rattle.arena_tree.specs.declared.node.Kind.{Kind}
-use Rattle.arena_tree.specs.declared.node.Kind.TheVariants as kind
-use Rattle.arena_tree.specs.declared.node.Node.{Node}
+use Rattle.tree_nodes.specs.declared.node.Kind.{Kind}
+use Rattle.tree_nodes.specs.declared.node.Kind.TheVariants as kind
+use Rattle.tree_nodes.specs.declared.node.Node.{Node}
 use Rattle.arena_tree.specs.FoldingParts.{total_of, total_in, capped, added, number_before, numbers_in, IsTail}
-use Rattle.arena_tree.proofs.WalkLemmas.{some_node, none_node}
+use Rattle.tree_nodes.proofs.WalkLemmas.{some_node, none_node}
 
 pub tail_begins : (product : Bool) (ns : List Node) (i t : ℕ) → length ns ≤ i → t ≡ total_of product []
     → IsTail product (numbers_in (drop i ns)) (Some t)

@@ -16,9 +16,9 @@ use Rattle.arena_tree.specs.Given.{IsTreeIn, Means}
 use Rattle.arena_tree.specs.Folding.{lists_of, footprint}
 use Rattle.arena_tree.specs.Staying.{StaysTree}
 use Rattle.arena_tree.specs.declared.tree.Tree.{Tree}
-use Rattle.arena_tree.proofs.OneTreeLemmas.{one_stmts}
-use Rattle.arena_tree.proofs.PartsLemmas.{First, parts_apart, stmts_parts}
-use Rattle.arena_tree.proofs.StayLemmas.{stay_all}
+use Rattle.tree_nodes.proofs.OneTreeLemmas.{one_stmts}
+use Rattle.tree_nodes.proofs.PartsLemmas.{First, parts_apart, stmts_parts}
+use Rattle.tree_nodes.proofs.StayLemmas.{stay_all}
 
 pub tree_readable : (m : Memory) (t : Tree) (ss : Stmts) → IsTreeIn m t → Means m t ss → AreReadable m.state (footprint ss m t)
 tree_readable m t ss h means = (h.held.place.readable, stmts_readable ss m (vec_list node_item m t.stmts) means)

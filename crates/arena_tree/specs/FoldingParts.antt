@@ -8,9 +8,9 @@ use Rattle.arena_vec.specs.declared.vec.Vec.{Vec}
 use Rattle.tree_rules.specs.Trees.{Expr, Num, Name, Neg, Sum, Prod, Exprs, Let, Show, Stmts}
 use Rattle.tree_rules.specs.Trees as tree
 use Rattle.tree_rules.specs.Trees.{sum, product, folded, all_folded, folded_stmt, folded_stmts, folds_of, folds_of_stmt, fold_neg, fold_sum, fold_prod, numbers_of, one_if_neg, one_if_reckoned}
-use Rattle.arena_tree.specs.declared.node.Kind.{Kind}
-use Rattle.arena_tree.specs.declared.node.Kind.TheVariants as kind
-use Rattle.arena_tree.specs.declared.node.Node.{Node}
+use Rattle.tree_nodes.specs.declared.node.Kind.{Kind}
+use Rattle.tree_nodes.specs.declared.node.Kind.TheVariants as kind
+use Rattle.tree_nodes.specs.declared.node.Node.{Node}
 use Rattle.arena_tree.specs.TreesAt.{node_item, ExprAt}
 use Rattle.arena_tree.specs.Folding.{IsWithin}
 use Rattle.arena_tree.specs.Subtrees.{Subtree, OfExpr, OfStmt, SubtreeAt, lists_at, texts_at, below_it, RowAt, row_lists, row_texts, row_nodes}

@@ -1,18 +1,9 @@
 -- Which blocks calls on trees ask their arena for, by size and alignment.
-use Rattle.std.specs.Prelude.{◌≡◌, ℕ, ◌+◌, ◌*◌, ◌≤◌, ◌⊎◌, max, List, length}
-use Rattle.arena_items.specs.Denied.{Layouts, Only, TextOf}
+use Rattle.std.specs.Prelude.{ℕ, ◌≤◌, ◌⊎◌, List, length}
+use Rattle.arena_items.specs.Denied.{Layouts, TextOf}
 use Rattle.tree_rules.specs.Tokens.{Word}
+pub use Rattle.tree_nodes.specs.Layouts.{ListOf, LongerList}
 use Rattle.arena_tree.specs.Parts.{IsTokenAt}
-
--- a list with room for this many nodes
-abbrev pub ListOf : ℕ → Layouts
-ListOf nodes = Only (nodes * 88) 8
-
--- the list that replaces a full one, to have room for one more node: of twice the capacity, and at first of one node
-abbrev pub LongerList : (len cap : ℕ) → Layouts
-LongerList len cap size align = (cap ≤ len) × ListOf (max (2 * cap) (len + 1)) size align
-
--- ---- What the tree of a text asks for
 
 -- the bytes of a name in the text
 pub record IsNameIn (bytes : List ℕ) (size align : ℕ) : Type 0 where

@@ -12,7 +12,7 @@ use Rattle.tree_reader.specs.Seen.{tokens_at}
 use Rattle.arena_tree.specs.Parts.{IsPassed, IsFactorPlace, spelled_at, IsTokenAt, TermsStop, Reads, behind_factor}
 use Rattle.arena_tree.specs.StmtsAt.{IsStmtPlaced}
 use Rattle.arena_tree.specs.Subtrees.{stmt_row, IsRowBuilt}
-use Rattle.arena_tree.specs.declared.node.Node.{Node}
+use Rattle.tree_nodes.specs.declared.node.Node.{Node}
 use Rattle.arena_tree.specs.declared.begin.LineStart.{LineStart}
 use Rattle.arena_tree.specs.declared.begin.LineStart.TheVariants as start
 

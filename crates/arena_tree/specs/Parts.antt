@@ -12,7 +12,7 @@ use Rattle.tree_rules.specs.declared.machine.Mode.TheVariants.{AtFactor, BehindF
 use Rattle.tree_reader.specs.Seen.{tokens_at}
 use Rattle.arena_tree.specs.TreesAt.{IsPlaced}
 use Rattle.arena_tree.specs.Subtrees.{expr_row, IsRowBuilt}
-use Rattle.arena_tree.specs.declared.node.Node.{Node}
+use Rattle.tree_nodes.specs.declared.node.Node.{Node}
 use Rattle.arena_tree.specs.declared.look.Start.{Start}
 use Rattle.arena_tree.specs.declared.look.Start.TheVariants as start
 

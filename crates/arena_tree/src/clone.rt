@@ -6,14 +6,10 @@ ghost use Rattle.arena_tree.specs.Spending.{Spends, error_of};
 ghost use Rattle.arena_tree.specs.Subtrees.{Subtree, SubtreeAt, RowAt, HasTree, HasRow, IsTreePlaced, IsRowBuilt};
 ghost use Rattle.arena_tree.specs.Cloning.{below_bytes, row_bytes, BelowCopyOf, RowCopyOf};
 
-use crate::build::{let_node, named, number, with_kids};
-use crate::clone_list::{fill, roomy};
-use crate::name::clone_text;
-use crate::node::{Kind, Node};
-use crate::walk::kids;
 use arena_chunks::{Allocator, ChunkSource};
 use arena_items::Grown;
 use arena_vec::Vec;
+use tree_nodes::{Kind, Node, clone_text, fill, kids, let_node, named, number, roomy, with_kids};
 
 #[cycle(clone)]
 fn clone_node<C: ChunkSource, D: ChunkSource>(

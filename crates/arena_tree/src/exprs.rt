@@ -3,12 +3,11 @@ ghost use Rattle.std.specs.Prelude.{◌^◌, ◌≤◌, length, IfOk};
 ghost use Rattle.arena_tree.specs.Parts.{IsFactorPlace, IsStart, IsFactor, IsTerm, IsTerms};
 ghost use Rattle.arena_tree.specs.Spending.{SpendsUpTo};
 
-use crate::build::{first_of, negate, number, push_node, sign, with_kids};
 use crate::look::{Start, close_at, sign_at, star_at, start_at};
-use crate::name::name_node;
-use crate::node::{Kind, Node};
+use crate::signs::{negate, sign};
 use arena_chunks::{Allocator, ChunkSource};
 use arena_items::Grown;
+use tree_nodes::{Kind, Node, first_of, name_node, number, push_node, with_kids};
 
 // This function and the next ones each read a part, write its node, and return where it ends. Factors are inlined into
 // their callers; the rarer parts, which clear memory for their results, are not.

@@ -7,14 +7,10 @@ ghost use Rattle.arena_tree.specs.TreesAt.{node_item, kids_of, kids_in, AreLean}
 ghost use Rattle.arena_tree.specs.Subtrees.{Subtree, lists_at, texts_at, has_kids};
 ghost use Rattle.arena_tree.specs.FoldingParts.{CanFold, CanFoldRow, IsWhole, IsFolded, FoldsRow, IsRule, IsSubtree, IsNegation, IsTotalNode, capped, added, total_of, total_in, numbers_in};
 
-use crate::build::number;
-use crate::node::{Kind, Node};
-use crate::walk::kids;
 use arena_chunks::{Allocator, ChunkSource};
 use arena_exchange::ReplaceWith;
 use arena_vec::Vec;
-
-impl ReplaceWith for Node {}
+use tree_nodes::{Kind, Node, kids, number};
 
 // The total with one more number in front, or `None` where it exceeds 64 bits.
 fn one_more(product: bool, total: Option<u64>, n: u64) -> Option<u64>

@@ -7,13 +7,11 @@ ghost use Rattle.arena_tree.specs.LineParts.{IsLinesPlace, IsLet, IsLine, AreLin
 ghost use Rattle.arena_tree.specs.Spending.{SpendsUpTo, SpendsAll, SpendsOrNot};
 
 use crate::begin::{LineStart, brace_at, line_at, semicolon_at};
-use crate::build::{number, push_node, with_kids, wrap};
 use crate::exprs::expr;
-use crate::name::place_name;
-use crate::node::{Kind, Node};
 use arena_chunks::{Allocator, ChunkSource};
 use arena_items::Grown;
 use arena_vec::Vec;
+use tree_nodes::{Kind, Node, number, place_name, push_node, with_kids, wrap};
 
 // A definition: its name's bytes, and the byte after the equals sign.
 fn let_line<C: ChunkSource>(

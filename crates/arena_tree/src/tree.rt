@@ -8,7 +8,6 @@ ghost use Rattle.arena_tree.specs.Parsing.{Parses, TakesAtMost, parse_bytes, err
 
 use crate::clone::clone_row;
 use crate::fold::fold_row;
-use crate::node::Node;
 use crate::print::{Stand, put_row};
 use crate::program::lines;
 use arena_chunks::{Allocator, ChunkSource};
@@ -17,6 +16,7 @@ use arena_rules::OutOfMemory;
 use arena_vec::Vec;
 use call_rules::Bytes;
 use std::alloc::Global;
+use tree_nodes::Node;
 use tree_reader::refusal;
 use tree_rules::Refused;
 use tree_rules::laws::{folding, machine, one_program, some_reading, well_formed};

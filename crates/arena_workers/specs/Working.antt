@@ -30,9 +30,10 @@ abbrev pub IsKept : {C : Type 0} → (C → Source) → View → Starved C → T
 IsKept source arena (Refused c) = (source c ≡ arena.source) × (allocated_bytes arena.memory.state < 2 ^ 60)
 IsKept source arena (Grown a) = (a ≡ arena) × (2 ^ 60 ≤ allocated_bytes arena.memory.state)
 
--- There was no memory for the piece.
+-- There was no memory for the piece. Its outcome doesn't say that an arena refused.
 pub record IsUnserved {Piece Outcome C : Type 0} (terms : Terms Piece Outcome) (served : Served Outcome C) : Type 0 where
   pub unserved : terms.unserved served.outcome
+  pub other : terms.is_refused served.outcome ≡ false
   pub none : served.starved ≡ None
 
 -- The work was done on an arena of the pool's kind with no bytes in use, which was low. Something is kept of the arena

@@ -1,5 +1,5 @@
 // What is done with a lent arena.
-ghost use Rattle.std.specs.Prelude.{◌≡◌};
+ghost use Rattle.std.specs.Prelude.{◌≡◌, false};
 ghost use Rattle.arena_rules.specs.State.{used_bytes};
 ghost use Rattle.arena_pool.specs.Kinds.{IsOfKind};
 ghost use Rattle.arena_pool.specs.declared.kind.PoolKind.{PoolKind};
@@ -27,9 +27,11 @@ pub trait Work<C: ChunkSource> {
         ensures done { terms.done piece.now a.old a.new result }
         ensures kind { (kind : PoolKind) → IsOfKind kind a.old.memory.state → IsOfKind kind a.new.memory.state };
 
-    /// Returns the outcome of a piece that no worker had the memory to begin. It should take no memory.
+    /// Returns the outcome of a piece that no worker had the memory to begin. It doesn't say that an arena refused. It
+    /// should take no memory.
     fn unserved(&self, alloc: Global) -> Self::Outcome
-        ensures { terms.unserved result };
+        ensures unserved { terms.unserved result }
+        ensures other { terms.is_refused result ≡ false };
 
     /// Returns whether the outcome says that an arena that grows refused a block. Such an arena isn't put back.
     fn is_refused(&self, outcome: &Self::Outcome) -> bool

@@ -2,7 +2,7 @@
 ghost use Rattle.std.specs.Prelude.{◌<◌};
 
 use crate::loops::{
-    Failed, Timed, alloc_and_reset, alloc_fixed, alloc_warm, bitset_contains, bitset_ones,
+    Failed, Heap, Timed, alloc_and_reset, alloc_fixed, alloc_warm, bitset_contains, bitset_ones,
     bitset_set, bitset_set_ascending, bitset_union, box_new, claim, grow_at_cursor, intern_known,
     intern_new, map_clone, map_get, map_insert, map_iter, map_remove, map_small, map_walked,
     new_allocator, reset_chunks, scope_define, scope_enter, scope_lookup, slice_copy, str_copy,
@@ -10,7 +10,6 @@ use crate::loops::{
     vec_insert_front, vec_iter, vec_push, vec_push_reserved, vec_retain, vec_small, vec_sum,
     with_capacity,
 };
-use arena_chunks::{Allocator, MemoryChunks};
 
 /// A loop whose only parameter is the number of calls.
 #[derive(Clone, Copy)]
@@ -107,8 +106,8 @@ impl Alone {
     fn run_in(
         self,
         rt: &HostRuntime,
-        a: &mut Allocator<MemoryChunks>,
-        b: &mut Allocator<MemoryChunks>,
+        a: &mut Heap,
+        b: &mut Heap,
         calls: u64,
     ) -> Result<Timed, Failed> {
         match self {

@@ -34,17 +34,20 @@ pub use vec::{
     vec_sum,
 };
 
+/// An arena whose chunks come from memory.
+pub type Heap = Allocator<MemoryChunks>;
+
 // The most bytes that a loop's chunks may have in all.
 const BUDGET: u64 = 1 << 30;
 
 /// Returns an arena without a chunk. Most loops borrow an arena, which is cheaper to prove. A loop that is slower
 /// that way owns its arena, and is compiled separately if that is faster.
-pub fn new_allocator(rt: &HostRuntime) -> Allocator<MemoryChunks> {
+pub fn new_allocator(rt: &HostRuntime) -> Heap {
     Allocator::new(rt.alloc(), MemoryChunks::new(rt.alloc(), BUDGET))
 }
 
 /// Returns an arena whose first chunk has `capacity` bytes, or one without a chunk if that is 0.
-pub fn with_capacity(rt: &HostRuntime, capacity: u64) -> Result<Allocator<MemoryChunks>, Failed> {
+pub fn with_capacity(rt: &HostRuntime, capacity: u64) -> Result<Heap, Failed> {
     let chunks = MemoryChunks::new(rt.alloc(), BUDGET);
     match Allocator::with_capacity(rt.alloc(), chunks, capacity) {
         Ok(a) => Ok(a),

@@ -9,3 +9,5 @@ pub mod TextRows
 pub mod MapLemmas
 pub mod GeneratorLemmas
 pub mod SummaryLemmas
+pub mod HeldLemmas
+pub mod NameLemmas

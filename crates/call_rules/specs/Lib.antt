@@ -7,3 +7,4 @@ pub mod Replies
 pub mod Generator
 pub mod Summary
 pub mod Held
+pub mod Names

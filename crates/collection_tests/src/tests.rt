@@ -2,6 +2,7 @@
 mod bits;
 mod copies;
 mod maps;
+mod symbols;
 mod texts;
 
 use arena_chunks::{Allocator, MemoryChunks};

@@ -1,2 +1,9 @@
+pub mod CountLemmas
+pub mod GrammarLemmas
+pub mod ReadingLemmas
+pub mod RefusalLemmas
+pub mod SpellingLemmas
 pub mod TreeLemmas
+pub mod TreeValueLemmas
 pub mod ValueLemmas
+pub mod WordLemmas

@@ -1,10 +1,11 @@
 -- What calls on a tree's nodes leave of its names, and the other way round.
 use Rattle.std.proofs.Common.{◌≡◌, ℕ, zero, suc, ◌+◌, ◌<◌, List, [], ◌∷◌, ◌++◌, length, Some, refl, sym, ap, subst, arith}
-use Rattle.std.proofs.Common.{Result, slice_get, ◌⊎◌, inl, inr}
+use Rattle.std.proofs.Common.{Result, Option, flat_map, slice_get, ◌⊎◌, inl, inr}
 use Rattle.std.specs.List.{AllByRecursion}
 use Rattle.std.proofs.lemmas.List.Elements.{All-push, All-weaker}
 use Rattle.std.proofs.lemmas.Option.{none-some, same_Some}
 use Rattle.arena.specs.AllocErrorType.{AllocError}
+use Rattle.arena.specs.Asks.{Ask, AsksFor}
 use Rattle.arena.specs.BlockType.{Block}
 use Rattle.arena.specs.Frame.{AreAllApart, Frame}
 use Rattle.arena.specs.Interning.{Interns}
@@ -19,8 +20,9 @@ use Rattle.arena.proofs.BlockLayers.{apart_both, frame_reflexive, frame_then, fr
 use Rattle.arena.proofs.BlockLayers.{frame_beside, frame_behind}
 use Rattle.arena.proofs.SymbolLayers.{all_turned}
 use Rattle.arena.proofs.VecLayers.{length-elements}
+use Rattle.example_language.proofs.CountLemmas.{same_count, counts_then, interned_counts}
 use Rattle.example_language.specs.Nodes.{node_item, node_of}
-use Rattle.example_language.specs.Trees.{IsAfter, AreOrdered, AreNodesIn, IsTreeIn, tree_blocks, Moves, IsBuilt, AreBelow}
+use Rattle.example_language.specs.Trees.{IsAfter, AreOrdered, AreNodesIn, IsTreeIn, tree_blocks, KeepsCount, Moves, IsBuilt, AreBelow}
 use Rattle.example_language.specs.declared.nodes.Node.{Node}
 use Rattle.example_language.specs.declared.trees.Tree.{Tree}
 
@@ -70,19 +72,21 @@ same_nodes {old = old} {after = after} handle memory are =
 
 -- ---- Calls
 
-pub tree_stays : {memory : Memory} {tree : Tree} → IsTreeIn memory tree → Moves memory memory tree tree
-tree_stays {memory = memory} {tree = tree} held =
-    record { held = held; frame = frame_reflexive memory (tree_blocks memory tree) }
+pub tree_stays : {a : View} {tree : Tree} → IsTreeIn a.memory tree → Moves a a tree tree
+tree_stays {a = a} {tree = tree} held =
+    record { held = held; frame = frame_reflexive a.memory (tree_blocks a.memory tree); counts = same_count a.source }
 
 -- A call on the nodes alone, which leaves the names.
-pub nodes_moved : {old new : Memory} (tree : Tree) {nodes : Vec Node} → AreNodesIn new nodes
-    → Frame old new (tree.nodes.raw.block ∷ []) (nodes.raw.block ∷ []) → IsInternerIn new tree.names
-    → names_footprint new tree.names ≡ names_footprint old tree.names
-    → AreAllApart (names_footprint new tree.names) (nodes.raw.block ∷ []) → Moves old new tree (record tree { nodes = nodes })
-nodes_moved {old = old} {new = new} tree {nodes = nodes} are frame names same apart = record {
+pub nodes_moved : (old new : View) (tree : Tree) {nodes : Vec Node} → AreNodesIn new.memory nodes
+    → Frame old.memory new.memory (tree.nodes.raw.block ∷ []) (nodes.raw.block ∷ []) → IsInternerIn new.memory tree.names
+    → names_footprint new.memory tree.names ≡ names_footprint old.memory tree.names
+    → AreAllApart (names_footprint new.memory tree.names) (nodes.raw.block ∷ []) → KeepsCount old.source new.source
+    → Moves old new tree (record tree { nodes = nodes })
+nodes_moved old new tree {nodes = nodes} are frame names same apart counts = record {
   held = record { nodes = are; names = names; apart = apart };
-  frame = subst (λ (blocks : List Block). Frame old new (tree_blocks old tree) (nodes.raw.block ∷ blocks)) (sym same)
-      (frame_beside old new (tree.nodes.raw.block ∷ []) (nodes.raw.block ∷ []) (names_footprint old tree.names) frame);
+  frame = subst (λ (blocks : List Block). Frame old.memory new.memory (tree_blocks old.memory tree) (nodes.raw.block ∷ blocks)) (sym same)
+      (frame_beside old.memory new.memory (tree.nodes.raw.block ∷ []) (nodes.raw.block ∷ []) (names_footprint old.memory tree.names) frame);
+  counts = counts;
 }
 
 -- A call that interns a text writes blocks of the interner alone.
@@ -99,7 +103,7 @@ pub names_moved : {old new : View} (tree : Tree) {names : Symbols} {text : List 
     → IsTreeIn old.memory tree → Interns old new tree.names names text result → IsVecIn node_item new.memory tree.nodes
     → vec_list node_item new.memory tree.nodes ≡ vec_list node_item old.memory tree.nodes
     → AreAllApart (tree.nodes.raw.block ∷ []) (names_footprint new.memory names)
-    → Moves old.memory new.memory tree (record tree { names = names })
+    → Moves old new tree (record tree { names = names })
 names_moved {old = old} {new = new} tree {names = names} held interns nodes same apart = record {
   held = record {
     nodes = record { held = nodes; ordered = subst AreOrdered (sym same) held.nodes.ordered };
@@ -108,6 +112,7 @@ names_moved {old = old} {new = new} tree {names = names} held interns nodes same
   };
   frame = frame_behind old.memory new.memory (names_footprint old.memory tree.names) (names_footprint new.memory names)
       (tree.nodes.raw.block ∷ []) (interned interns);
+  counts = interned_counts interns;
 }
 
 -- ---- Trees that are built
@@ -124,15 +129,18 @@ frame_of_none memory blocks apart =
     (λ addr n some none rest. (all_turned blocks (range addr n ∷ []) (apart (range addr n ∷ []))).0)
     (frame_reflexive memory [])
 
-pub built_then : {old mid new : Memory} {tree after : Tree} → IsBuilt old mid tree → Moves mid new tree after
+pub built_then : {old mid new : View} {tree after : Tree} → IsBuilt old mid tree → Moves mid new tree after
     → IsBuilt old new after
 built_then {old = old} {mid = mid} {new = new} {tree = tree} {after = after} built moves = record {
   held = moves.held;
-  frame = frame_then old mid new [] (tree_blocks mid tree) (tree_blocks new after) built.frame moves.frame;
+  frame = frame_then old.memory mid.memory new.memory [] (tree_blocks mid.memory tree) (tree_blocks new.memory after)
+      built.frame moves.frame;
+  counts = counts_then built.counts moves.counts;
 }
 
-pub others_stay : {old new : Memory} {tree : Tree} → IsBuilt old new tree → Frame old new [] []
-others_stay {old = old} {new = new} {tree = tree} built = frame_forget old new [] (tree_blocks new tree) built.frame
+pub others_stay : {old new : View} {tree : Tree} → IsBuilt old new tree → Frame old.memory new.memory [] []
+others_stay {old = old} {new = new} {tree = tree} built =
+    frame_forget old.memory new.memory [] (tree_blocks new.memory tree) built.frame
 
 -- one more index below one more
 pub below_more : (n m : ℕ) (indices : List ℕ) (index : ℕ) → AreBelow n indices → index ≡ n → m ≡ n + 1
@@ -145,3 +153,13 @@ below_more n m indices index below is more =
 pub all_plain : {A : Type 0} (xs : List A) → AllByRecursion (λ (x : A). Unit {0}) xs
 all_plain [] = tt
 all_plain (x ∷ xs) = (tt, all_plain xs)
+
+-- Plain values ask for no blocks of their own.
+none_asked : {A B : Type 0} (xs : List A) → flat_map {A = B} (λ (x : A). []) xs ≡ []
+none_asked [] = refl
+none_asked (x ∷ xs) = none_asked xs
+
+pub only_block : {A : Type 0} (ask : Ask) (old new : View) (blocks : List Block) (end : Option AllocError) (xs : List A)
+    → AsksFor (ask ∷ flat_map {A = Ask} (λ (x : A). []) xs) old new blocks end → AsksFor (ask ∷ []) old new blocks end
+only_block ask old new blocks end xs asks =
+    subst (λ (more : List Ask). AsksFor (ask ∷ more) old new blocks end) (none_asked xs) asks

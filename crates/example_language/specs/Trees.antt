@@ -1,9 +1,10 @@
 -- Trees in an arena.
-use Rattle.std.specs.Prelude.{◌≡◌, ℕ, ◌<◌, List, [], ◌∷◌, Some, slice_get}
+use Rattle.std.specs.Prelude.{◌≡◌, ℕ, ◌<◌, ◌≤◌, List, [], ◌∷◌, ◌++◌, Option, Some, slice_get, IfSome, IsSomeAnd}
 use Rattle.std.specs.List.{All}
 use Rattle.arena.specs.BlockType.{Block}
 use Rattle.arena.specs.Frame.{AreAllApart, Frame}
 use Rattle.arena.specs.Memory.{Memory}
+use Rattle.arena.specs.Source.{Source, View}
 use Rattle.arena.specs.SymbolNames.{IsInternerIn, names_footprint}
 use Rattle.arena.specs.VecType.{Vec}
 use Rattle.arena.specs.Vecs.{IsVecIn, vec_list}
@@ -38,15 +39,26 @@ pub record IsTreeIn (memory : Memory) (tree : Tree) : Type 0 where
 abbrev pub tree_blocks : Memory → Tree → List Block
 tree_blocks memory tree = tree.nodes.raw.block ∷ names_footprint memory tree.names
 
+-- If requests are listed afterwards, they were before, and these were added.
+abbrev pub ListsMore : Option (List (ℕ × ℕ)) → Option (List (ℕ × ℕ)) → Type 0
+ListsMore before after = IfSome after (λ all. IsSomeAnd before (λ some. (added : List (ℕ × ℕ)) × (all ≡ some ++ added)))
+
+-- A source forgot no refusal and no request.
+pub record KeepsCount (before after : Source) : Type 0 where
+  pub refusals : before.refusals ≤ after.refusals
+  pub requests : ListsMore before.asked after.asked
+
 -- After a call the tree is held, and nothing else in the arena was written.
-pub record Moves (old new : Memory) (before after : Tree) : Type 0 where
-  pub held : IsTreeIn new after
-  pub frame : Frame old new (tree_blocks old before) (tree_blocks new after)
+pub record Moves (old new : View) (before after : Tree) : Type 0 where
+  pub held : IsTreeIn new.memory after
+  pub frame : Frame old.memory new.memory (tree_blocks old.memory before) (tree_blocks new.memory after)
+  pub counts : KeepsCount old.source new.source
 
 -- A tree that was placed since then: what was in use stays, and is apart from its blocks.
-pub record IsBuilt (old new : Memory) (tree : Tree) : Type 0 where
-  pub held : IsTreeIn new tree
-  pub frame : Frame old new [] (tree_blocks new tree)
+pub record IsBuilt (old new : View) (tree : Tree) : Type 0 where
+  pub held : IsTreeIn new.memory tree
+  pub frame : Frame old.memory new.memory [] (tree_blocks new.memory tree)
+  pub counts : KeepsCount old.source new.source
 
 -- each number is an index below this one
 abbrev pub AreBelow : ℕ → List ℕ → Type 0

@@ -1,6 +1,8 @@
--- The values of nodes, without an arena.
-use Rattle.std.specs.Prelude.{ℕ, ◌+◌, ◌-◌, ◌*◌, ◌%◌, ◌^◌, List, [], ◌∷◌, ◌++◌, Option, Some, slice_get, slice_index, length}
+-- The values of nodes and of trees, without an arena.
+use Rattle.std.specs.Prelude.{ℕ, ◌+◌, ◌-◌, ◌*◌, ◌%◌, ◌^◌, List, [], ◌∷◌, ◌++◌, Option, Some, None, slice_get, slice_index, length}
 use Rattle.std.specs.Option.{option_and_then}
+use Rattle.arena.specs.Interner.{number_of}
+use Rattle.example_language.specs.Meaning.{Expr, Num, Var, Add, Mul}
 use Rattle.example_language.specs.declared.nodes.Node.{Node}
 use Rattle.example_language.specs.declared.nodes.Node.TheVariants.{Number, Name, Sum, Product}
 
@@ -23,3 +25,17 @@ last_value values = slice_get values (length values - 1)
 -- the value of a list of nodes: that of the last one
 abbrev pub value_of : List ℕ → List Node → Option ℕ
 value_of names nodes = option_and_then last_value (values_after names [] nodes)
+
+-- ---- Trees
+
+-- two values, as this function gives one of them, modulo 2^32
+abbrev pub combined : (ℕ → ℕ → ℕ) → Option ℕ → Option ℕ → Option ℕ
+combined f (Some a) (Some b) = Some (f a b % 2 ^ 32)
+combined f a b = None
+
+-- the value of a tree, from those of these names; `None` if a name has no value
+abbrev pub tree_value : List ℕ → List (List ℕ) → Expr → Option ℕ
+tree_value values names (Num n) = Some n
+tree_value values names (Var name) = option_and_then (slice_get values) (number_of names name)
+tree_value values names (Add l r) = combined (λ a b. a + b) (tree_value values names l) (tree_value values names r)
+tree_value values names (Mul l r) = combined (λ a b. a * b) (tree_value values names l) (tree_value values names r)

@@ -1,15 +1,17 @@
 // Nodes that outlive the arena of their tree.
-ghost use Rattle.std.specs.Prelude.{◌≡◌, [], IfOk, OnOk};
+ghost use Rattle.std.specs.Prelude.{◌≡◌, [], IfOk, OnOk, IfErr, OnErr, Ok};
 ghost use Rattle.arena.specs.Frame.{Frame};
 ghost use Rattle.arena.specs.Resizes.{NoneReadable};
 ghost use Rattle.arena.specs.Vecs.{vec_list};
+ghost use Rattle.example_language.specs.Copying.{CopyRefused, NotKept};
+ghost use Rattle.example_language.specs.Meaning.{Expr, reading};
 ghost use Rattle.example_language.specs.Nodes.{node_item};
+ghost use Rattle.example_language.specs.Placing.{no_rows, placed};
 ghost use Rattle.example_language.specs.Trees.{AreNodesIn};
 
 use crate::parsing::{ParseErr, parse};
 use crate::trees::NodeList;
 use arena::{Allocator, ChunkSource, CloneIn, Grown};
-use std::alloc::Global;
 
 /// Copies nodes to another arena. The copy is the same list; the names stay behind.
 ///
@@ -25,6 +27,7 @@ pub fn copy_nodes<C: ChunkSource, D: ChunkSource>(
     ensures nodes { IfOk result (AreNodesIn to.new.memory) }
     ensures list { IfOk result (λ copy. vec_list node_item to.new.memory copy
         ≡ vec_list node_item from.now.memory nodes.now) }
+    ensures refused { IfErr result (CopyRefused to.old to.new nodes.now) }
     ensures others { Frame to.old.memory to.new.memory [] [] }
 {
     let copy = nodes.clone_in(from, to)?;
@@ -35,18 +38,21 @@ pub fn copy_nodes<C: ChunkSource, D: ChunkSource>(
 ///
 /// # Errors
 ///
-/// Those of `parse` and of `copy_nodes`. The first arena isn't reset then.
+/// Those of `parse` and of `copy_nodes`. The first arena isn't reset then: what was in use stays as it was.
 pub fn keep<C: ChunkSource, D: ChunkSource>(
-    alloc: Global,
     first: &mut Allocator<C>,
     other: &mut Allocator<D>,
     src: &str,
 ) -> Result<NodeList, ParseErr>
     ensures nodes { IfOk result (AreNodesIn other.new.memory) }
+    ensures list { IfOk result (λ kept. (expr : Expr) × (reading src.now ≡ Ok expr)
+        × (vec_list node_item other.new.memory kept ≡ (placed expr no_rows).nodes)) }
+    ensures wrong { IfErr result (NotKept first.old first.new other.old other.new src.now) }
     ensures ends { OnOk result (NoneReadable first.new.memory.state) }
+    ensures unreset { OnErr result (Frame first.old.memory first.new.memory [] []) }
     ensures others { Frame other.old.memory other.new.memory [] [] }
 {
-    let tree = parse(alloc, first, src)?;
+    let tree = parse(first, src)?;
     let kept = copy_nodes(&tree.nodes, first, other)?;
     first.reset();
     Ok(kept)

@@ -2,10 +2,11 @@
 //! first, as in `x 2 + y *`.
 //!
 //! It is the subject of the tutorial: a node type of its own with its byte form, a parser with interned names, values
-//! without checks of indices, and a copy that outlives the arena of its source.
+//! without checks of indices, and a copy that outlives the arena of its source. `specs/Meaning.antt` says what a text means.
 #![tactic(auto)]
 
 mod copying;
+pub mod laws;
 mod nodes;
 mod parsing;
 mod trees;

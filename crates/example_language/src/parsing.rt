@@ -1,37 +1,41 @@
 // Texts, and the trees that they become.
-ghost use Rattle.std.specs.Prelude.{◌≡◌, ◌<◌, [], ◌∷◌, ◌++◌, IfOk};
+ghost use Rattle.std.specs.Prelude.{◌≡◌, ◌<◌, List, [], ◌∷◌, ◌++◌, ℕ, length, Ok, IfOk, IfErr, OnErr};
+ghost use Rattle.arena.specs.AllocErrorType.{AllocError};
 ghost use Rattle.arena.specs.Frame.{Frame};
+ghost use Rattle.example_language.specs.Building.{ArePlaced, Takes};
+ghost use Rattle.example_language.specs.Meaning.{Expr, is_name, number_in, token_of};
+ghost use Rattle.example_language.specs.Parsing.{NameRefused, Parses};
+ghost use Rattle.example_language.specs.Placing.{rows_in};
 ghost use Rattle.example_language.specs.Trees.{IsAfter, IsTreeIn, IsBuilt, Moves, AreBelow};
+ghost use Rattle.example_language.specs.declared.parsing.ParseErr.TheVariants.{Refused};
 
 use crate::nodes::Node;
 use crate::trees::Tree;
 use arena::{AllocError, Allocator, ChunkSource};
-use std::alloc::{AllocFailed, Global};
+use arrayvec::ArrayVec;
 
 /// Why a text has no tree.
 #[derive(Clone, Copy, PartialEq, Eq, Debug)]
 pub enum ParseErr {
-    /// What begins at this byte is no token.
+    /// The word at this byte is no token.
     Token { at: usize },
-    /// The sign at this byte has fewer than two operands; or the text ends here, and more than one operand is left.
+    /// The sign at this byte has fewer than two operands; or the text ends here, and more than one tree is left.
     Operands { at: usize },
-    /// The arena refused a block, or memory outside its chunks ran out.
+    /// After the word at this byte more than 64 trees wait for their sign.
+    TooDeep { at: usize },
+    /// The arena refused a block, or has as many nodes or names as it can.
     Refused(AllocError),
 }
 
 impl From<AllocError> for ParseErr {
+    ghost from_gives = { λ e result. result ≡ Refused e };
+
     fn from(e: AllocError) -> ParseErr {
         ParseErr::Refused(e)
     }
 }
 
-impl<T: Drop> From<AllocFailed<T>> for ParseErr {
-    fn from(_e: AllocFailed<T>) -> ParseErr {
-        ParseErr::Refused(AllocError::OutOfMemory)
-    }
-}
-
-// What a token is.
+// What a word is.
 #[derive(Clone, Copy)]
 enum Token {
     Number(u32),
@@ -40,39 +44,51 @@ enum Token {
     Product,
 }
 
-// Whether the bytes are a name: letters, and at least one.
-fn is_name(bytes: &[u8]) -> bool {
-    !bytes.is_empty() && bytes.iter().all(|b| b.is_ascii_alphabetic())
+// Whether the word is a name: letters, and at least one.
+fn is_name(word: &[u8]) -> bool
+    ensures { result ≡ is_name word.now }
+{
+    !word.is_empty() && word.iter().all(|b| b.is_ascii_alphabetic())
 }
 
-// The number that a text of digits spells, if it is below 2^32.
-fn number(text: &str) -> Option<u32> {
-    if !text.as_bytes().iter().all(|b| b.is_ascii_digit()) {
+// The number that digits spell, if it is below 2^32.
+fn number_in(word: &str) -> Option<u32>
+    ensures { result ≡ number_in word.now }
+{
+    if !word.as_bytes().iter().all(|b| b.is_ascii_digit()) {
         return None;
     }
-    text.parse::<u32>().ok()
+    word.parse::<u32>().ok()
 }
 
-fn token_of(text: &str) -> Option<Token> {
-    match text.as_bytes() {
-        b"+" => Some(Token::Sum),
-        b"*" => Some(Token::Product),
-        bytes => {
-            if is_name(bytes) {
-                Some(Token::Name)
-            } else {
-                number(text).map(Token::Number)
-            }
-        }
+fn token_of(word: &str) -> Option<Token>
+    ensures { result ≡ token_of word.now }
+{
+    if word == "+" {
+        return Some(Token::Sum);
+    }
+    if word == "*" {
+        return Some(Token::Product);
+    }
+    if is_name(word.as_bytes()) {
+        return Some(Token::Name);
+    }
+    match number_in(word) {
+        Some(n) => Some(Token::Number(n)),
+        None => None,
     }
 }
 
+// The indices of the trees that wait for their sign, in the order of the text.
+type Waiting = ArrayVec<u32, 64>;
+
 // Takes the last two operands from the stack, and returns them in the order of the text.
-fn operands(stack: &mut Vec<u32>, _len: u32, at: usize) -> Result<(u32, u32), ParseErr>
-    requires { AreBelow _len stack.old.items }
-    ensures below { AreBelow _len stack.new.items }
-    ensures both { IfOk result (λ p. (p.0 < _len) × (p.1 < _len)) }
+fn operands(stack: &mut Waiting, at: usize) -> Result<(u32, u32), ParseErr>
+    ensures below { (n : ℕ) → AreBelow n stack.old.items → AreBelow n stack.new.items }
+    ensures both { (n : ℕ) → AreBelow n stack.old.items → IfOk result (λ p. (p.0 < n) × (p.1 < n)) }
     ensures items { IfOk result (λ p. stack.old.items ≡ stack.new.items ++ p.0 ∷ p.1 ∷ []) }
+    ensures few { OnErr result (length stack.old.items < 2) }
+    ensures place { IfErr result (λ e. e ≡ ParseErr.Operands at) }
 {
     let Some(right) = stack.pop() else {
         return Err(ParseErr::Operands { at });
@@ -88,26 +104,31 @@ fn operands(stack: &mut Vec<u32>, _len: u32, at: usize) -> Result<(u32, u32), Pa
 fn node_of<C: ChunkSource>(
     a: &mut Allocator<C>,
     tree: &mut Tree,
-    stack: &mut Vec<u32>,
-    text: &str,
+    stack: &mut Waiting,
+    word: &str,
     token: Token,
     at: usize,
 ) -> Result<Node, ParseErr>
     requires tree { IsTreeIn a.old.memory tree.old }
     requires stack { AreBelow tree.old.nodes.raw.len stack.old.items }
-    ensures moves { Moves a.old.memory a.new.memory tree.old tree.new }
+    ensures moves { Moves a.old a.new tree.old tree.new }
     ensures stack { AreBelow tree.new.nodes.raw.len stack.new.items }
     ensures node { IfOk result (IsAfter tree.new.nodes.raw.len) }
+    ensures takes { (trees : List Expr)
+        → ArePlaced (rows_in a.old.memory tree.old) stack.old.items trees
+        → Takes word.now token at (rows_in a.new.memory tree.new) stack.new.items trees result }
+    ensures refused { IfErr result (λ e. (error : AllocError) → e ≡ ParseErr.Refused error
+        → (token ≡ Token.Name) × NameRefused a.old a.new tree.old word.now error) }
 {
     match token {
         Token::Number(n) => Ok(Node::Number(n)),
-        Token::Name => Ok(Node::Name(tree.add_name(a, text)?)),
+        Token::Name => Ok(Node::Name(tree.add_name(a, word)?)),
         Token::Sum => {
-            let (left, right) = operands(stack, tree.nodes.raw.len, at)?;
+            let (left, right) = operands(stack, at)?;
             Ok(Node::Sum(left, right))
         }
         Token::Product => {
-            let (left, right) = operands(stack, tree.nodes.raw.len, at)?;
+            let (left, right) = operands(stack, at)?;
             Ok(Node::Product(left, right))
         }
     }
@@ -117,32 +138,31 @@ fn node_of<C: ChunkSource>(
 ///
 /// # Errors
 ///
-/// `Token` or `Operands` at the first token that is wrong, or `Operands` at the end of the text. `Refused` with the
-/// arena's error, with `CapacityOverflow` for a name of 4,294,967,296 letters or more, or with `OutOfMemory` where the
-/// stack of operands finds no memory. Blocks placed until then stay in the arena, unused.
-pub fn parse<C: ChunkSource>(
-    alloc: Global,
-    a: &mut Allocator<C>,
-    src: &str,
-) -> Result<Tree, ParseErr>
-    ensures tree { IfOk result (IsBuilt a.old.memory a.new.memory) }
+/// The text's first error, which is `Token`, `Operands` or `TooDeep`. `Refused` with the arena's error, or with
+/// `CapacityOverflow` for a name of 4,294,967,296 letters or more. Blocks placed until then stay in the arena, unused.
+pub fn parse<C: ChunkSource>(a: &mut Allocator<C>, src: &str) -> Result<Tree, ParseErr>
+    ensures tree { IfOk result (IsBuilt a.old a.new) }
+    ensures reading { Parses a.old a.new src.now result }
     ensures others { Frame a.old.memory a.new.memory [] [] }
 {
     let mut tree = Tree::new_in();
-    let mut stack = Vec::new(alloc);
-    let mut at = 0usize;
-    'tokens: for text in src.split(' ') {
-        let Some(token) = token_of(text) else {
+    let mut stack = Waiting::new();
+    let mut at = 0;
+    'tokens: for word in src.split(' ') {
+        let Some(token) = token_of(word) else {
             return Err(ParseErr::Token { at });
         };
-        let node = node_of(a, &mut tree, &mut stack, text, token, at)?;
+        let node = node_of(a, &mut tree, &mut stack, word, token, at)?;
+        if stack.is_full() {
+            return Err(ParseErr::TooDeep { at });
+        }
         let index = tree.nodes.len();
         tree.add_node(a, node)?;
-        stack.push(index)?;
-        at = at.saturating_add(text.len()).saturating_add(1);
+        stack.push(index);
+        at += word.len() + 1;
     }
-    match stack.as_slice() {
-        [_] => Ok(tree),
-        _ => Err(ParseErr::Operands { at: src.len() }),
+    if stack.len() != 1 {
+        return Err(ParseErr::Operands { at: src.len() });
     }
+    Ok(tree)
 }

@@ -1,5 +1,6 @@
-// Marks: the bytes before a table's slots, one for each. The mark of a free slot is 0. Otherwise its high half is the
-// distance of the slot from the pair's home plus 1, at most 15, and its low half is the top four bits of the hash.
+// Marks: the control bytes before a table's slots, one for each. The mark of a free slot is 0. Otherwise its high half
+// is the pair's probe distance, from its home to the slot, plus 1, at most 15, and its low half is the top four bits of
+// the hash.
 
 ghost use Rattle.std.specs.Prelude.{◌≡◌, ℕ, ◌+◌, ◌/◌, ◌*◌, ◌%◌, ◌^◌, ◌<◌};
 ghost use Rattle.std.specs.Int.{IsPowerOfTwo};
@@ -71,7 +72,7 @@ pub fn ring(slots: u64, at: u64) -> u64
     at & (slots - 1)
 }
 
-/// Returns the distance of a slot from the home of a hash.
+/// Returns the probe distance of a slot: how far it is from the home of a hash.
 #[inline]
 pub fn distance(slots: u64, hash: u64, at: u64) -> u64
     requires ring { IsRing slots }

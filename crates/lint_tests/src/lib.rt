@@ -1,6 +1,5 @@
-//! Tests of interners and scoped tables, of the checker and the trees of programs, of the linter over pools, and of
-//! its input and output: where an input is split into sources, and the lines of their reports. `uses` has proved
-//! callers.
+//! Tests of the checker and the trees of programs, of the linter over pools, and of its input and output: where an
+//! input is split into sources, and the lines of their reports. `uses` has proved callers.
 #![tactic(auto)]
 
 #[cfg(test)]

@@ -2,7 +2,6 @@
 // out by hand from the rules.
 mod linter;
 mod reports;
-mod symbols;
 mod trees;
 
 use arena_chunks::{Allocator, MemoryChunks, RefusingChunks};

@@ -1,14 +1,16 @@
 -- What one turn of a loop does to lists, sets and runs.
-use Rattle.std.proofs.Common.{◌≡◌, ℕ, suc, ◌+◌, ◌-◌, ◌*◌, ◌<◌, ◌≤◌, refl, sym, ap, ◌∙◌, arith, Bool, true, false, List, [], ◌∷◌, ◌++◌, length, drop, get_or, drop-cons, add-one, append_assoc}
-use Rattle.std.specs.Prelude.{nat_lt, ◌==◌, if◌then◌else◌}
+use Rattle.std.proofs.Common.{◌≡◌, ℕ, suc, ◌+◌, ◌-◌, ◌*◌, ◌<◌, ◌≤◌, refl, sym, ap, ◌∙◌, arith, Bool, true, false, Result, Ok, Err, List, [], ◌∷◌, ◌++◌, length, drop, take, get_or, drop-cons, add-one, append_assoc}
+use Rattle.std.specs.Prelude.{OnErr, nat_lt, ◌==◌, if◌then◌else◌}
 use Rattle.std.specs.List.{filter, list_any, range_with_len}
 use Rattle.std.proofs.lemmas.Bool.Decides.{nat_tests}
-use Rattle.std.proofs.lemmas.List.{append-nil}
+use Rattle.std.proofs.lemmas.List.{append-nil, take_more}
 use Rattle.arena_rules.specs.Bits.{Set, members}
 use Rattle.arena_rules.specs.PrintedBits.{has_byte, highest, digits, lower, printed}
-use Rattle.script_rules.specs.Objects.{Bits, bind, united}
+use Rattle.script_rules.specs.Objects.{Bits, Objects, bind, united}
 use Rattle.script_rules.specs.Machine.{Ran, step, run_from, ran_on}
 use Rattle.script_rules.specs.declared.commands.Command.{Command}
+use Rattle.script_rules.specs.declared.commands.ScriptReply.{ScriptReply}
+use Rattle.script_rules.proofs.RunLemmas.{goes_on}
 
 -- a list from an index on: the item there, and those after it
 pub drop_at : {X : Type 0} (xs : List X) (i : ℕ) (x : X) → i < length xs → x ≡ get_or xs i x → drop i xs ≡ x ∷ drop (i + 1) xs
@@ -125,8 +127,35 @@ run_more ran c rest =
     ∙ ap (λ ns. record { replies = (ran.replies ++ a.reply ∷ []) ++ more.replies; costs = ns; objects = more.objects })
     (sym (append_assoc ran.costs (a.cost ∷ []) more.costs))
 
+pub run_begun : (objects : Objects) (commands : List Command) {replies : List ScriptReply} {costs : List ℕ} → replies ≡ [] → costs ≡ []
+    → ran_on (record { replies = replies; costs = costs; objects = objects }) commands ≡ run_from objects commands
+run_begun objects commands none free =
+    λ i. ran_on (record { replies = none i; costs = free i; objects = objects }) commands
+
 pub run_none : (ran : Ran) → ran_on ran [] ≡ ran
 unfolding run_from
 run_none ran =
     ap (λ rs. record { replies = rs; costs = ran.costs ++ []; objects = ran.objects }) (append-nil ran.replies)
     ∙ ap (λ ns. record { replies = ran.replies; costs = ns; objects = ran.objects }) (append-nil ran.costs)
+
+-- the objects after the first commands, and after one more
+pub first_none : (objects : Objects) (commands : List Command) → objects ≡ (run_from objects (take 0 commands)).objects
+unfolding run_from
+first_none objects commands = refl
+
+pub first_more : (objects : Objects) (commands : List Command) (i : ℕ) (c : Command) → i < length commands → c ≡ get_or commands i c
+    → {now : Objects} → now ≡ (run_from objects (take i commands)).objects
+    → (step c now).objects ≡ (run_from objects (take (i + 1) commands)).objects
+unfolding run_from
+first_more objects commands i c low is now =
+    ap (λ o. (step c o).objects) now ∙ sym (ap (λ (r : Ran). r.objects) (goes_on objects (take i commands) (c ∷ [])))
+    ∙ sym (ap (λ cs. (run_from objects cs).objects) (take_more commands i c low ∙ ap (λ x. take i commands ++ x ∷ []) (sym is)))
+
+-- A run that failed after one more command leaves the objects after that many.
+pub stops_after : (objects : Objects) (commands : List Command) (i : ℕ) (c : Command) → i < length commands → c ≡ get_or commands i c
+    → {now later : Objects} → now ≡ (run_from objects (take i commands)).objects → later ≡ (step c now).objects
+    → {X E : Type 0} (r : Result X E)
+    → OnErr r ((n : ℕ) × (n ≤ length commands) × (later ≡ (run_from objects (take n commands)).objects))
+stops_after objects commands i c low is now later (Ok x) = tt
+stops_after objects commands i c low is now later (Err e) =
+    (i + 1, omega (arith, low), later ∙ first_more objects commands i c low is now)

@@ -1,5 +1,5 @@
 // Whole runs.
-ghost use Rattle.std.specs.Prelude.{◌≡◌, IfOk};
+ghost use Rattle.std.specs.Prelude.{◌≡◌, ℕ, ◌≤◌, length, take, IfOk, OnErr};
 ghost use Rattle.script_rules.specs.Machine as machine;
 ghost use Rattle.plain_scripts.specs.Answers.{gives_all};
 
@@ -22,9 +22,11 @@ impl PlainScripts {
     ///
     /// # Errors
     ///
-    /// Out of memory. What the objects then are is unspecified.
+    /// Out of memory. The objects are those after a first part of the commands.
     pub fn run_from(&mut self, alloc: Global, commands: &[Command]) -> Result<PlainRun, OutOfMemory>
-        ensures { IfOk result (λ run. gives_all self.new run ≡ machine.run_from self.old commands.now) }
+        ensures ok { IfOk result (λ run. gives_all self.new run ≡ machine.run_from self.old commands.now) }
+        ensures err { OnErr result ((n : ℕ) × (n ≤ length commands.now)
+            × (self.new ≡ (machine.run_from self.old (take n commands.now)).objects)) }
     {
         let mut replies = Replies::new(alloc);
         let mut costs = Vec::new(alloc);

@@ -1,9 +1,7 @@
 // Helpers for the tests of the program. Arguments are called words.
 mod calls;
-mod lines;
 mod programs;
 mod rows;
-mod scripts;
 mod watched;
 
 use arena_calls::{MemoryInput, MemoryOutput};
@@ -23,6 +21,16 @@ struct Asked<'a> {
     taken: u32,
     writes: &'a [u64],
 }
+
+// The word `calls`, without failing reads or writes.
+const CALLS: Asked<'static> = Asked {
+    words: &["calls"],
+    text: b"",
+    given: 4096,
+    reads: &[],
+    taken: 4096,
+    writes: &[],
+};
 
 fn streams(alloc: Global, asked: &Asked) -> Result<(MemoryInput, MemoryOutput), Fail> {
     let text = asked.text.to_vec(alloc)?;

@@ -5,6 +5,7 @@ use Rattle.std.proofs.Math.Nat.{add-mul}
 use Rattle.std.specs.Prelude.{slice_get, Option}
 use Rattle.std.specs.Iterator.{YieldsFirst}
 use Rattle.std.proofs.lemmas.List.{length-take, length-drop}
+use Rattle.std.proofs.lemmas.Option.{same_Some}
 use Rattle.arena_items.specs.Values.{elements}
 use Rattle.raw_vec.specs.Rows.{window}
 use Rattle.arena_items.proofs.Layers.{length-elements, elements-empty, elements-cut, elements-drop, elements-front}
@@ -21,13 +22,10 @@ pub window-none : {T : Type 0} (xs : List T) (f b : ℕ) → f ≡ b → b ≤ l
 unfolding window
 window-none xs f b e h = grind (arith, common_steps)
 
-some_same : {T : Type 0} (x y : T) → Some x ≡ Some y → x ≡ y
-some_same x y e = cc
-
 first : {T : Type 0} (xs : List T) (f b : ℕ) (x : T) → f < b → slice_get xs f ≡ Some x → drop f (take b xs) ≡ x ∷ drop (suc f) (take b xs)
 first [] f b x h e = cc
 first (y ∷ xs) f zero x h e = absurd (omega arith)
-first (y ∷ xs) zero (suc b) x h e = ap (λ z. z ∷ take b xs) (some_same y x e)
+first (y ∷ xs) zero (suc b) x h e = ap (λ z. z ∷ take b xs) (same_Some y x e)
 first (y ∷ xs) (suc f) (suc b) x h e = first xs f b x (omega arith) e
 
 pub window-first : {T : Type 0} (xs : List T) (f b : ℕ) (x : T) → f < b → slice_get xs f ≡ Some x → window xs f b ≡ x ∷ window xs (f + 1) b
@@ -37,7 +35,7 @@ window-first xs f b x h e = rw add-one (first xs f b x h e)
 last : {T : Type 0} (xs : List T) (f b : ℕ) (x : T) → f ≤ b → slice_get xs b ≡ Some x → drop f (take (suc b) xs)
     ≡ drop f (take b xs) ++ x ∷ []
 last [] f b x h e = cc
-last (y ∷ xs) zero zero x h e = ap (λ z. z ∷ []) (some_same y x e)
+last (y ∷ xs) zero zero x h e = ap (λ z. z ∷ []) (same_Some y x e)
 last (y ∷ xs) (suc f) zero x h e = absurd (omega arith)
 last (y ∷ xs) zero (suc b) x h e = ap (λ zs. y ∷ zs) (last xs zero b x (omega arith) e)
 last (y ∷ xs) (suc f) (suc b) x h e = last xs f b x (omega arith) e

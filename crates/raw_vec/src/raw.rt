@@ -258,7 +258,7 @@ impl<T: Item> RawVec<T> {
         self.reserve_by(a, len, additional, false)
     }
 
-    /// The same as `try_reserve`.
+    /// Makes room for `additional` values after the first `len`, as `try_reserve` does.
     ///
     /// # Errors
     ///
@@ -300,7 +300,7 @@ impl<T: Item> RawVec<T> {
         self.reserve_by(a, len, additional, true)
     }
 
-    /// The same as `try_reserve_exact`.
+    /// Makes room for exactly `additional` values after the first `len`, as `try_reserve_exact` does.
     ///
     /// # Errors
     ///

@@ -1,7 +1,7 @@
 -- Lines of outcomes, one after another.
-use Rattle.std.proofs.Common.{◌≡◌, ℕ, zero, suc, ◌+◌, ◌<◌, List, [], ◌∷◌, ◌++◌, length, map, take, get_or, refl, sym, ap, ◌∙◌, arith, append_assoc, codes}
+use Rattle.std.proofs.Common.{◌≡◌, ℕ, ◌+◌, ◌<◌, List, [], ◌∷◌, ◌++◌, length, map, take, get_or, refl, sym, ap, ◌∙◌, arith, append_assoc, codes}
 use Rattle.std.specs.List.{flat_map}
-use Rattle.std.proofs.lemmas.List.{append-nil, map-append}
+use Rattle.std.proofs.lemmas.List.{append-nil, map-append, length-map, length-take-le}
 use Rattle.std.proofs.lemmas.Grind.{flat_map-append}
 use Rattle.std.proofs.lemmas.List.Folds.{flat_map-map}
 use Rattle.call_rules.specs.Grammar.{number, fields, with_feed}
@@ -57,22 +57,13 @@ lines_more i (o ∷ outcomes) outcome =
     ∙ ap (λ xs. xs ++ outcome_text (i + length (o ∷ outcomes)) outcome)
     (sym (flat_map-append with_feed (outcome_lines i o) (lines_from (i + 1) outcomes)))
 
-length_front : {A : Type 0} (xs : List A) (i : ℕ) → i < length xs → length (take i xs) ≡ i
-length_front [] i h = absurd (omega arith)
-length_front (x ∷ xs) zero h = refl
-length_front (x ∷ xs) (suc i) h = ap suc (length_front xs i (omega arith))
-
-length_map : {X : Type 0} (f : X → Told) (xs : List X) → length (map f xs) ≡ length xs
-length_map f [] = refl
-length_map f (x ∷ xs) = ap suc (length_map f xs)
-
 -- the lines of one more outcome, whatever it is printed from
 pub outcome_more : {X : Type 0} (f : X → Told) (old mid new : List ℕ) (xs : List X) (i : ℕ) (x : X) → i < length xs → x ≡ get_or xs i x
     → mid ≡ old ++ flat_map with_feed (lines_from 0 (map f (take i xs))) → new ≡ mid ++ outcome_text i (f x)
     → new ≡ old ++ flat_map with_feed (lines_from 0 (map f (take (i + 1) xs)))
 outcome_more f old mid new xs i x h is before put =
     let front = map f (take i xs) in
-    let count : 0 + length front ≡ i = omega (arith, length_map f (take i xs), length_front xs i h) in
+    let count : 0 + length front ≡ i = omega (arith, length-map (take i xs) f, length-take-le i xs (omega arith)) in
     let more : flat_map with_feed (lines_from 0 (map f (take (i + 1) xs))) ≡ flat_map with_feed (lines_from 0 front) ++ outcome_text i (f x)
     = ap (λ os. flat_map with_feed (lines_from 0 (map f os))) (take_next xs i x x h is)
     ∙ ap (λ os. flat_map with_feed (lines_from 0 os)) (map-append f (take i xs) (x ∷ []))

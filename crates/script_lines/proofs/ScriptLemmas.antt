@@ -1,9 +1,12 @@
 -- Lines of scripts, one after another.
-use Rattle.std.proofs.Common.{◌≡◌, ◌≢◌, ℕ, zero, suc, ◌+◌, ◌-◌, ◌<◌, get_or, true, false, List, [], ◌∷◌, ◌++◌, length, map, Some, None, refl, sym, ap, ◌∙◌, subst, arith, append_assoc, length-append, codes}
+use Rattle.std.proofs.Common.{◌≡◌, ◌≢◌, ℕ, zero, suc, ◌+◌, ◌-◌, ◌<◌, get_or, true, false, List, [], ◌∷◌, ◌++◌, length, Some, None, refl, sym, ap, ◌∙◌, subst, arith, append_assoc, length-append, codes}
 use Rattle.std.specs.Prelude.{slice_set, ◌==◌}
 use Rattle.std.proofs.lemmas.Bool.Decides.{nat_tests}
 use Rattle.std.specs.List.{AllByRecursion, filter, flat_map}
-use Rattle.std.proofs.lemmas.List.{append-nil}
+use Rattle.std.proofs.lemmas.List.{append-nil, map_push}
+use Rattle.std.proofs.lemmas.List.Concat.{flat_map-append}
+use Rattle.std.proofs.lemmas.List.Elements.{filter-append}
+use Rattle.arena_rules.proofs.ListLemmas.{all_append, all_parts}
 use Rattle.std.proofs.lemmas.Option.{some_pair_parts}
 use Rattle.call_rules.specs.Grammar.{lines_of, number, hex}
 use Rattle.line_parts.specs.Reads.{ReadsFront}
@@ -85,36 +88,9 @@ some_line (DropName a) e = cc
 
 -- ---- Lists of lines
 
-filter_more : (lines : List (List ℕ)) (line : List ℕ) → filter is_some_line (lines ++ line ∷ [])
-    ≡ filter is_some_line lines ++ filter is_some_line (line ∷ [])
-filter_more [] line = refl
-filter_more ([] ∷ lines) line = filter_more lines line
-filter_more ((b ∷ l) ∷ lines) line = ap (λ ls. (b ∷ l) ∷ ls) (filter_more lines line)
-
 filter_one : (line : List ℕ) → line ≢ [] → filter is_some_line (line ∷ []) ≡ line ∷ []
 filter_one [] some = absurd (some refl)
 filter_one (b ∷ line) some = refl
-
-lines_joined : (a b : List (List Command)) → flat_map script_lines (a ++ b) ≡ flat_map script_lines a ++ flat_map script_lines b
-lines_joined [] b = refl
-lines_joined (s ∷ a) b = ap (λ ls. script_lines s ++ ls) (lines_joined a b)
-    ∙ sym (append_assoc (script_lines s) (flat_map script_lines a) (flat_map script_lines b))
-
-map_more : (s : List Command) (command : Command) → map command_line (s ++ command ∷ []) ≡ map command_line s ++ command_line command ∷ []
-map_more [] command = refl
-map_more (c ∷ s) command = ap (λ ls. command_line c ∷ ls) (map_more s command)
-
-all_joined : {A : Type 0} (P : A → Type 0) (a b : List A) → AllByRecursion P a → AllByRecursion P b → AllByRecursion P (a ++ b)
-all_joined P [] b p q = q
-all_joined P (x ∷ a) b p q = (p.0, all_joined P a b p.1 q)
-
-all_front : {A : Type 0} (P : A → Type 0) (a b : List A) → AllByRecursion P (a ++ b) → AllByRecursion P a
-all_front P [] b p = tt
-all_front P (x ∷ a) b p = (p.0, all_front P a b p.1)
-
-all_back : {A : Type 0} (P : A → Type 0) (a b : List A) → AllByRecursion P (a ++ b) → AllByRecursion P b
-all_back P [] b p = p
-all_back P (x ∷ a) b p = all_back P a b p.1
 
 -- ---- The last script
 
@@ -151,7 +127,10 @@ takes_empty bytes scripts e = record {
   line = [];
   first = ended [] bytes refl (sym e);
   shorter = omega arith;
-  adds = λ lines are. record { fit = are.fit; text = filter_more lines [] ∙ append-nil (filter is_some_line lines) ∙ are.text };
+  adds = λ lines are. record {
+    fit = are.fit;
+    text = filter-append is_some_line lines ([] ∷ []) ∙ append-nil (filter is_some_line lines) ∙ are.text;
+  };
 }
 
 -- a line that begins a script
@@ -162,8 +141,9 @@ takes_script bytes behind old new front e pushed = record {
   first = ap lines_of front ∙ ended (codes "script") behind refl (sym e);
   shorter = omega (arith, ap length front);
   adds = λ lines are. subst (AreScripts (lines ++ codes "script" ∷ [])) (sym pushed) (record {
-    fit = all_joined (AllByRecursion Fits) old ([] ∷ []) are.fit (tt, tt);
-    text = filter_more lines (codes "script") ∙ ap (λ ls. ls ++ codes "script" ∷ []) are.text ∙ sym (lines_joined old ([] ∷ []));
+    fit = all_append (AllByRecursion Fits) old ([] ∷ []) are.fit (tt, tt);
+    text = filter-append is_some_line lines (codes "script" ∷ []) ∙ ap (λ ls. ls ++ codes "script" ∷ []) are.text
+        ∙ sym (flat_map-append script_lines old ([] ∷ []));
   });
 }
 
@@ -172,24 +152,23 @@ last_lines : (front : List (List Command)) (last : List Command) (command : Comm
     → flat_map script_lines (front ++ (last ++ command ∷ []) ∷ []) ≡ flat_map script_lines (front ++ last ∷ []) ++ command_line command ∷ []
 last_lines front last command =
     let own : flat_map script_lines ((last ++ command ∷ []) ∷ []) ≡ script_lines last ++ command_line command ∷ []
-    = append-nil (script_lines (last ++ command ∷ [])) ∙ ap (λ ls. codes "script" ∷ ls) (map_more last command) in
+    = append-nil (script_lines (last ++ command ∷ [])) ∙ ap (λ ls. codes "script" ∷ ls) (map_push command_line last command) in
     let alone : flat_map script_lines (last ∷ []) ≡ script_lines last = append-nil (script_lines last) in
-    lines_joined front ((last ++ command ∷ []) ∷ []) ∙ ap (λ ls. flat_map script_lines front ++ ls) own
+    flat_map-append script_lines front ((last ++ command ∷ []) ∷ []) ∙ ap (λ ls. flat_map script_lines front ++ ls) own
     ∙ sym (append_assoc (flat_map script_lines front) (script_lines last) (command_line command ∷ []))
     ∙ ap (λ ls. ls ++ command_line command ∷ []) (ap (λ ls. flat_map script_lines front ++ ls) (sym alone)
-    ∙ sym (lines_joined front (last ∷ [])))
+    ∙ sym (flat_map-append script_lines front (last ∷ [])))
 
 add_command : (lines : List (List ℕ)) (command : Command) (old new : List (List Command)) → Fits command → AddsLast command old new
     → AreScripts lines old → AreScripts (lines ++ command_line command ∷ []) new
 add_command lines command old new fits adds are =
     let before : AllByRecursion (AllByRecursion Fits) (adds.front ++ adds.last ∷ [])
     = subst (AllByRecursion (AllByRecursion Fits)) adds.before are.fit in
-    let front = all_front (AllByRecursion Fits) adds.front (adds.last ∷ []) before in
-    let last = (all_back (AllByRecursion Fits) adds.front (adds.last ∷ []) before).0 in
+    let fit = all_parts (AllByRecursion Fits) adds.front (adds.last ∷ []) before in
     subst (AreScripts (lines ++ command_line command ∷ [])) (sym adds.after) (record {
-      fit = all_joined (AllByRecursion Fits) adds.front ((adds.last ++ command ∷ []) ∷ []) front
-          (all_joined Fits adds.last (command ∷ []) last (fits, tt), tt);
-      text = filter_more lines (command_line command)
+      fit = all_append (AllByRecursion Fits) adds.front ((adds.last ++ command ∷ []) ∷ []) fit.0
+          (all_append Fits adds.last (command ∷ []) fit.1.0 (fits, tt), tt);
+      text = filter-append is_some_line lines (command_line command ∷ [])
           ∙ ap (λ ls. filter is_some_line lines ++ ls) (filter_one (command_line command) (some_line command))
           ∙ ap (λ ls. ls ++ command_line command ∷ []) (are.text ∙ ap (flat_map script_lines) adds.before)
           ∙ sym (last_lines adds.front adds.last command);

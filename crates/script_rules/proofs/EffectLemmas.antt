@@ -7,6 +7,7 @@ use Rattle.std.proofs.lemmas.Bool.Decides.{nat_tests}
 use Rattle.std.proofs.lemmas.List.Edits.{length-insert, length-remove}
 use Rattle.std.proofs.lemmas.Option.{slice_get_within}
 use Rattle.arena_rules.specs.Bits.{Set, words_for}
+use Rattle.arena_rules.proofs.ListLemmas.{all_append}
 use Rattle.arena_rules.specs.PrintedBits.{highest, digits, lower, printed}
 use Rattle.call_rules.specs.Grammar.{IsByte}
 use Rattle.script_rules.specs.Objects.{Entries, get, bind, Bits, bits_end, has, Object, AList, AText, ASet, AMap, AValue, copy_cost, need_of, most_items, most_bytes, most_pairs, IsObject}
@@ -118,10 +119,6 @@ module _ (of : ℕ → Option Object) where
 number_served : (o : Option ℕ) → IsServed (number_or_nothing o)
 number_served None = (refl, tt)
 number_served (Some n) = (refl, tt)
-
-all_append : {X : Type 0} (P : X → Type 0) (xs ys : List X) → AllByRecursion P xs → AllByRecursion P ys → AllByRecursion P (xs ++ ys)
-all_append P [] ys all more = more
-all_append P (x ∷ xs) ys all more = (all.0, all_append P xs ys all.1 more)
 
 byte_of : (b : ℕ) → b < 128 → IsByte b
 byte_of b h = omega (arith, h)

@@ -1,7 +1,8 @@
 -- Bytes have at most one reading.
-use Rattle.std.proofs.Common.{◌≡◌, ◌≢◌, ℕ, suc, ◌+◌, ◌⊎◌, inl, inr, Bool, true, false, List, [], ◌∷◌, ◌++◌, length, refl, sym, ap, ◌∙◌, subst, codes, Ok, Err, cond}
+use Rattle.std.proofs.Common.{◌≡◌, ◌≢◌, ℕ, suc, ◌+◌, ◌⊎◌, inl, inr, List, [], ◌∷◌, ◌++◌, length, refl, sym, ap, ◌∙◌, subst, codes, Ok, Err}
 use Rattle.std.specs.Prelude.{Result}
 use Rattle.std.specs.List.{AllByRecursion, filter, flat_map}
+use Rattle.std.proofs.lemmas.List.Elements.{filter-append}
 use Rattle.call_rules.specs.Grammar.{lines_of}
 use Rattle.script_rules.specs.Grammar.{Fits, script_lines, is_some_line, AreScripts, IsRefused, IsFirstRefused, ScriptsOf}
 use Rattle.script_rules.specs.declared.commands.Command.{Command}
@@ -20,14 +21,6 @@ read_scripts_back scripts h =
     ∙ ap (λ (p : Gathered). p.1) (gather_back scripts)
 
 -- ---- Refused lines
-
-pub filter_append : {X : Type 0} (p : X → Bool) (xs ys : List X) → filter p (xs ++ ys) ≡ filter p xs ++ filter p ys
-filter_append p [] ys = refl
-filter_append p (x ∷ xs) ys =
-    elim (p x) as (λ b. cond b (x ∷ filter p (xs ++ ys)) (filter p (xs ++ ys)) ≡ cond b (x ∷ filter p xs) (filter p xs) ++ filter p ys) [
-      | true ↦ ap (λ more. x ∷ more) (filter_append p xs ys)
-      | false ↦ filter_append p xs ys
-    ]
 
 pub kept : (line : List ℕ) (lines : List (List ℕ)) → line ≢ [] → filter is_some_line (line ∷ lines) ≡ line ∷ filter is_some_line lines
 kept [] lines some = absurd (some refl)
@@ -62,7 +55,7 @@ none_refused scripts others before after line good bad all =
     let parts : filter is_some_line before ++ line ∷ filter is_some_line after ≡ flat_map script_lines others
     =
     ap (λ more. filter is_some_line before ++ more) (sym (kept line after bad.some))
-    ∙ sym (filter_append is_some_line before (line ∷ after)) ∙ all.text in
+    ∙ sym (filter-append is_some_line before (line ∷ after)) ∙ all.text in
     let found = middle (filter is_some_line before) (filter is_some_line after) line (flat_map begun others) (good_lines others all.fit)
     (parts ∙ script_texts others) in
     by found.0 found.1.0 found.1.1 parts

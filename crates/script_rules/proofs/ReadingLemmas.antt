@@ -1,5 +1,5 @@
 -- Lines of scripts, read back.
-use Rattle.std.proofs.Common.{◌≡◌, ℕ, List, [], ◌∷◌, ◌++◌, map, drop, get_or, refl, sym, ap, ◌∙◌, append_assoc, codes}
+use Rattle.std.proofs.Common.{◌≡◌, ℕ, List, [], ◌∷◌, ◌++◌, map, drop, get_or, refl, sym, ap, ◌∙◌, append_assoc, append-nil, codes}
 use Rattle.std.specs.List.{AllByRecursion, flat_map}
 use Rattle.call_rules.specs.Grammar.{number, fields, hex}
 use Rattle.call_rules.proofs.LineLemmas.{read_by, read_fields, read_fields_back, read_field, read_field_back, read_hex, read_hex_back}
@@ -181,17 +181,13 @@ unfolding gather
 gather_does [] ls = refl
 gather_does (c ∷ script) ls = ap (λ (p : Gathered). (c ∷ p.0, p.1)) (gather_does script ls)
 
-append_none : {X : Type 0} (xs : List X) → xs ++ [] ≡ xs
-append_none [] = refl
-append_none (x ∷ xs) = ap (λ more. x ∷ more) (append_none xs)
-
 pub gather_back : (scripts : List (List Command)) → ◌≡◌ {A = Gathered} (gather (flat_map begun scripts)) ([], scripts)
 unfolding gather
 gather_back [] = refl
 gather_back (script ∷ scripts) =
     ap (λ (p : Gathered). ([], p.0 ∷ p.1)) (gather_does script (flat_map begun scripts))
     ∙ ap (λ (p : Gathered). ([], (script ++ p.0) ∷ p.1)) (gather_back scripts)
-    ∙ ap (λ s. ([], s ∷ scripts)) (append_none script)
+    ∙ ap (λ s. ([], s ∷ scripts)) (append-nil script)
 
 -- what was gathered are the lines,
 pub gathered : (ls : List Line) → map Does (gather ls).0 ++ flat_map begun (gather ls).1 ≡ ls

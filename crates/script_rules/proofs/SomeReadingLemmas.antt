@@ -7,7 +7,7 @@ use Rattle.call_rules.proofs.DecisionLemmas.{Decided, both, below, are_bytes, sa
 use Rattle.script_rules.specs.Grammar.{Part, Bits, Hex, IsPart, written, command_line, Fits, is_some_line, AreScripts, IsFirstRefused, ScriptsOf}
 use Rattle.script_rules.specs.declared.commands.Command.{Command}
 use Rattle.script_rules.proofs.ReadingLemmas.{Line, Begins, Does, line_text, IsGood, read_line, read_line_back, texts, begun, script_texts, gather, gathered, gather_fits}
-use Rattle.script_rules.proofs.OneReadingLemmas.{filter_append}
+use Rattle.std.proofs.lemmas.List.Elements.{filter-append}
 
 -- ---- One line
 
@@ -215,7 +215,7 @@ by_bad lines n bad (Begins ∷ ls) e = inr (n, refused_behind lines n bad (ap (�
 by_bad lines n bad (Does c ∷ ls) e =
     let fits : Fits c = (subst (AllByRecursion IsGood) e bad.good.good).0 in
     inr (first_refused lines (texts ls ++ filter is_some_line (bad.line ∷ bad.after)) (command_line c) (no_begin c fits)
-    (ap (filter is_some_line) bad.all ∙ filter_append is_some_line bad.before (bad.line ∷ bad.after)
+    (ap (filter is_some_line) bad.all ∙ filter-append is_some_line bad.before (bad.line ∷ bad.after)
     ∙ ap (λ ts. ts ++ filter is_some_line (bad.line ∷ bad.after)) (bad.good.text ∙ ap texts e)))
 
 pub some_reading : (bytes : List ℕ) → (r : Result (List (List Command)) ℕ) × ScriptsOf bytes r

@@ -3,6 +3,8 @@ use Rattle.std.proofs.Common.{◌≡◌, ◌≢◌, ℕ, zero, suc, ◌+◌, ◌
 use Rattle.std.specs.Prelude.{◌==◌, if◌then◌else◌}
 use Rattle.std.specs.List.{AllByRecursion, flat_map}
 use Rattle.std.proofs.lemmas.Bool.Decides.{nat_tests}
+use Rattle.std.proofs.lemmas.List.{map-append}
+use Rattle.arena_rules.proofs.ListLemmas.{all_append}
 use Rattle.call_rules.specs.Grammar.{number, fields, with_feed}
 use Rattle.call_rules.proofs.NumberLemmas.{read_front, read_number, Stops}
 use Rattle.call_rules.proofs.LineLemmas.{read_by, read_field, read_field_back, read_hex, read_hex_back}
@@ -193,10 +195,6 @@ abbrev all_lines : ℕ → List Told → List Line
 all_lines i [] = []
 all_lines i (o ∷ os) = (Begins i ∷ outcome_of o) ++ all_lines (i + 1) os
 
-map_append : {A B : Type 0} (f : A → B) (xs ys : List A) → map f (xs ++ ys) ≡ map f xs ++ map f ys
-map_append f [] ys = refl
-map_append f (x ∷ xs) ys = ap (λ more. f x ∷ more) (map_append f xs ys)
-
 said_lines : (rs : List ScriptReply) → map line_of (map Says rs) ≡ map reply_line rs
 said_lines [] = refl
 said_lines (r ∷ rs) = ap (λ more. reply_line r ∷ more) (said_lines rs)
@@ -204,14 +202,10 @@ said_lines (r ∷ rs) = ap (λ more. reply_line r ∷ more) (said_lines rs)
 lines_all : (i : ℕ) (os : List Told) → map line_of (all_lines i os) ≡ lines_from i os
 lines_all i [] = refl
 lines_all i (o ∷ os) = ap (λ more. line_of (Begins i) ∷ more)
-    (map_append line_of (outcome_of o) (all_lines (i + 1) os)
-    ∙ ap (λ front. front ++ map line_of (all_lines (i + 1) os)) (map_append line_of (map Says o.replies) (Ends o.ended ∷ [])
+    (map-append line_of (outcome_of o) (all_lines (i + 1) os)
+    ∙ ap (λ front. front ++ map line_of (all_lines (i + 1) os)) (map-append line_of (map Says o.replies) (Ends o.ended ∷ [])
     ∙ ap (λ rs. rs ++ ended_line o.ended ∷ []) (said_lines o.replies))
     ∙ ap (λ more. (map reply_line o.replies ++ ended_line o.ended ∷ []) ++ more) (lines_all (i + 1) os))
-
-good_append : (xs ys : List Line) → AllByRecursion IsGood xs → AllByRecursion IsGood ys → AllByRecursion IsGood (xs ++ ys)
-good_append [] ys h g = g
-good_append (x ∷ xs) ys h g = (h.0, good_append xs ys h.1 g)
 
 good_replies : (rs : List ScriptReply) → AllByRecursion HasBytes rs → AllByRecursion IsGood (map Says rs)
 good_replies [] h = tt
@@ -221,8 +215,8 @@ all_good : (i : ℕ) (os : List Told) → AllByRecursion (λ o. AllByRecursion H
 all_good i [] h = tt
 all_good i (o ∷ os) h = (
   tt,
-  good_append (outcome_of o) (all_lines (i + 1) os)
-      (good_append (map Says o.replies) (Ends o.ended ∷ []) (good_replies o.replies h.0) (tt, tt)) (all_good (i + 1) os h.1),
+  all_append IsGood (outcome_of o) (all_lines (i + 1) os)
+      (all_append IsGood (map Says o.replies) (Ends o.ended ∷ []) (good_replies o.replies h.0) (tt, tt)) (all_good (i + 1) os h.1),
 )
 
 -- from the last line on: the replies and the ending of an outcome that has not begun, and the outcomes after it

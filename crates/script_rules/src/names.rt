@@ -3,20 +3,17 @@ ghost use Rattle.std.specs.Prelude.{◌≡◌, ◌^◌, ◌<◌, [], OnOk, OnErr
 ghost use Rattle.script_rules.specs.Objects.{get, bind, unbind};
 
 use arena_rules::OutOfMemory;
+use call_rules::Names as Table;
 use std::alloc::Global;
-use std::collections::BTreeMap;
 use std::marker::Model;
 
-/// A table of the values of names, which contracts see as its entries by rising names. It is a tree on the host's heap:
-/// each call takes time logarithmic in the number of names, whatever they are. A hash table could be made slow by a
-/// caller that chooses the names.
+/// A table of the values of names, which contracts see as its entries by rising names.
 #[derive(Drop)]
 pub struct Names<V> {
-    values: BTreeMap<u32, V>,
+    values: Table<V>,
 }
 
 impl<V> Model for Names<V> {
-    ghost use Rattle.std.specs.Ordering.{nat_cmp};
     ghost use Rattle.std.specs.FinMap as map;
     ghost use Rattle.std.specs.Coded.{coded_ℕ, coded_list, coded×};
     ghost use Rattle.script_rules.specs.Objects.{Entries};
@@ -25,16 +22,16 @@ impl<V> Model for Names<V> {
 
     ghost coded = { coded_list (coded× coded_ℕ V.code) };
 
-    ghost view = { λ n. map.entries (map.from_entries {R = nat_cmp} n.values.entries) };
+    ghost view = { λ n. map.entries n.values };
 }
 
-impl<V: Drop> Names<V> {
+impl<V: Copy> Names<V> {
     /// Returns a table with no names. Takes no memory.
     pub fn new(alloc: Global) -> Names<V>
         ensures { result ≡ [] }
     {
         Names {
-            values: BTreeMap::new(alloc),
+            values: Table::new(alloc),
         }
     }
 
@@ -57,15 +54,13 @@ impl<V: Drop> Names<V> {
     pub fn remove(&mut self, name: u32)
         ensures { self.new ≡ unbind self.old name }
     {
-        self.values.remove(&name);
+        self.values.remove(name);
     }
-}
 
-impl<V: Copy> Names<V> {
     /// Returns the value of a name, if it has one.
     pub fn get(&self, name: u32) -> Option<V>
         ensures { result ≡ get self.now name }
     {
-        self.values.get(&name).copied()
+        self.values.get(name)
     }
 }

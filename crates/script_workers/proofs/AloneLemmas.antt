@@ -4,15 +4,17 @@ use Rattle.std.specs.List.{AllZip}
 use Rattle.arena_chunks.specs.Source.{Source, View}
 use Rattle.arena_pool.specs.Kinds.{IsOfKind}
 use Rattle.arena_pool.specs.declared.kind.PoolKind.{PoolKind}
-use Rattle.script_rules.specs.Machine.{run, cost_of}
+use Rattle.script_rules.specs.Objects.{need}
+use Rattle.script_rules.specs.Machine.{run, run_from, cost_of}
 use Rattle.script_rules.specs.declared.commands.Command.{Command}
 use Rattle.script_rules.specs.declared.commands.Ended.{Ended}
+use Rattle.script_rules.specs.declared.commands.ScriptReply.{ScriptReply}
 use Rattle.script_rules.specs.declared.commands.Ended.TheVariants as ended
 use Rattle.script_rules.specs.declared.outcome.Outcome.{Outcome}
 use Rattle.script_rules.proofs.RunLemmas.{first_within}
 use Rattle.arena_script.specs.Acts.{used}
 use Rattle.arena_script.specs.Serves.{KeepsKind}
-use Rattle.arena_script.specs.Running.{IsStoppedAt, cost_with_next}
+use Rattle.arena_script.specs.Running.{IsStoppedAt, cost_with_next, objects_so_far}
 use Rattle.arena_workers.specs.Working.{IsDone, IsServed, IsUnserved as HasNoArena}
 use Rattle.arena_workers.specs.declared.served.Served.{Served}
 use Rattle.arena_workers.proofs.KindLemmas.{kind_kept as still_of_kind}
@@ -39,6 +41,7 @@ module _ {C : Type 0} (source : C → Source) (kind : PoolKind) (worked : List C
   -- ---- A script that wasn't started
 
   unserved_alone : HasNoArena (script_terms worked) served → IsServedAlone source kind worked script served
+  unfolding run_from
   unserved_alone none = let u = none.unserved in record {
     replies = record {
       first = u.replies ∙ sym (ap (λ n. take n (run script).replies) (ap length u.replies));
@@ -46,11 +49,13 @@ module _ {C : Type 0} (source : C → Source) (kind : PoolKind) (worked : List C
     };
     most = omega (arith, u.used);
     least = λ e. let f : ended.OutOfMemory ≡ ended.Done = sym u.ended ∙ e in absurd (cc);
+    so_far = let none : need (objects_so_far script served.outcome) ≡ 0
+        = ap (λ (rs : List ScriptReply). need (run (take (length rs) script)).objects) u.replies in omega (arith, none);
     stopped = λ other. inl u;
-    asked = λ other memory. absurd (memory u.ended);
     full = λ e. let f : ended.OutOfMemory ≡ ended.Full = sym u.ended ∙ e in absurd (cc);
     refused = λ e. let f : ended.OutOfMemory ≡ ended.Refused = sym u.ended ∙ e in absurd (cc);
     other = λ other. none.none;
+    ran = inr u;
     relation = inr u;
   }
 
@@ -72,13 +77,8 @@ module _ {C : Type 0} (source : C → Source) (kind : PoolKind) (worked : List C
       replies = ran.replies;
       most = ran.most;
       least = ran.least;
+      so_far = ran.so_far;
       stopped = stopped_alone;
-      asked = λ other memory. record {
-        old = done.old;
-        new = done.new;
-        unused = done.unused;
-        denied = ran.asked other memory;
-      };
       full = λ e. too_small source kind done.old done.new done.unused done.low cost (ran.full e);
       refused = λ e. (
         standard source kind done.old done.new done.unused done.low cost (ran.refused e).starved,
@@ -87,6 +87,14 @@ module _ {C : Type 0} (source : C → Source) (kind : PoolKind) (worked : List C
             (done.refused (ap is_refused e)),
       );
       other = λ other. done.other (not_refused served.outcome.ended other);
+      ran = inl (record {
+        old = done.old;
+        new = done.new;
+        unused = done.unused;
+        low = done.low;
+        ran = ran;
+        kept = λ e. done.refused (ap is_refused e);
+      });
       relation = inl done.done.did;
     }
 

@@ -2,6 +2,7 @@
 use Rattle.std.proofs.Common.{◌≡◌, ℕ, ◌^◌, ◌≤◌, ◌<◌, max, Bool, true, false, cond, Option, Some, None, List, [], ◌∷◌, ◌++◌, length, refl, sym, ap, ◌∙◌, subst, arith, append_assoc, append-nil}
 use Rattle.std.specs.Prelude.{nat_le}
 use Rattle.std.proofs.lemmas.Bool.Decides.{nat_tests}
+use Rattle.std.proofs.lemmas.Option.{none-some}
 use Rattle.tree_rules.specs.Tokens.{Token, LetKey, Word, Number, Plus, Minus, Star, LeftParen, RightParen, LeftBrace, RightBrace, Equals, Semicolon, Other}
 use Rattle.tree_rules.specs.Grammar.{Program, spell, nest, Begins, BeginsWithin}
 use Rattle.tree_rules.specs.Refusals.{Fits}
@@ -10,9 +11,6 @@ use Rattle.tree_rules.proofs.StepLemmas.{goes, kept, and_then, program_goes}
 use Rattle.tree_rules.proofs.ProgramPlaces.{Leads, leads_first, leads_on, leads_begin}
 
 -- ---- Accepting tokens
-
-pub not_some : (s : State) → ◌≡◌ {A = Option State} None (Some s) → ⊥
-not_some s e = cc
 
 -- A first token was accepted.
 pub record Goes (most : ℕ) (s : State) (t : Token) (ts : List Token) (end : State) : Type 0 where
@@ -28,10 +26,10 @@ goes_first most s t ts end e = by (step s t) refl e
     kept_first : (next : State) → step s t ≡ Some next → (b : Bool) → nat_le (length next.opens) most ≡ b
         → and_then (cond b (Some next) None) (λ n. goes most n ts) ≡ Some end → Goes most s t ts end
     kept_first next is true test rest = record { next = next; step_is = is; low = grind (arith, nat_tests); rest = rest }
-    kept_first next is false test rest = absurd (not_some end rest)
+    kept_first next is false test rest = absurd (none-some end rest)
 
     by : (o : Option State) → step s t ≡ o → and_then (kept most o) (λ n. goes most n ts) ≡ Some end → Goes most s t ts end
-    by None is rest = absurd (not_some end rest)
+    by None is rest = absurd (none-some end rest)
     by (Some next) is rest = kept_first next is (nat_le (length next.opens) most) refl rest
 
 pub goes_step : (most : ℕ) (s : State) (t : Token) (ts : List Token) (next : State) → step s t ≡ Some next → length next.opens ≤ most

@@ -1,5 +1,6 @@
 -- Each state that the machine reaches is that of a place in a program.
-use Rattle.std.proofs.Common.{◌≡◌, ℕ, suc, ◌+◌, ◌≤◌, Option, Some, None, List, ◌∷◌, length, refl, sym, ap, ◌∙◌, arith}
+use Rattle.std.proofs.Common.{◌≡◌, ℕ, suc, ◌+◌, ◌≤◌, Some, List, ◌∷◌, length, refl, sym, ap, ◌∙◌, arith}
+use Rattle.std.proofs.lemmas.Option.{none-some, same_Some}
 use Rattle.tree_rules.specs.Tokens.{Token, LetKey, Word, Number, Plus, Minus, Star, LeftParen, RightParen, LeftBrace, RightBrace, Equals, Semicolon, Other}
 use Rattle.tree_rules.specs.Grammar.{Factor, ANumber, AName, InParens, Negated, Factors, OneFactor, Times, Terms, OneTerm, Added, Taken, Line, LetLine, ShowLine, BlockLine, Empty, Next, spell_factor, spell_factors, spell_terms, spell_line, factor_nest, factors_nest, terms_nest, line_nest}
 use Rattle.tree_rules.specs.declared.machine.Mode.TheVariants.{AtLine, AtName, AtEquals, AtFactor, BehindFactor}
@@ -127,19 +128,13 @@ pub record Comes (most : ℕ) (tokens : List Token → List Token) (Fitted : Typ
   pub before_is : (more : List Token) → before place more ≡ tokens more
   pub fits : Fitted → length next.opens ≤ most → PlaceFits most place
 
-not_some : (next : State) → ◌≡◌ {A = Option State} None (Some next) → ⊥
-not_some next e = cc
-
-same_state : (s next : State) → Some s ≡ Some next → s ≡ next
-same_state s next e = cc
-
 comes_factor : (most : ℕ) (h : FactorHole) (f : Factor) (next : State) → Some (state BehindFactor (signs_ended (open_at_factor h))) ≡
     Some next
     → Comes most (λ more. before_factor h (spell_factor f more)) (FactorFits h most × (factor_nest f + length (open_at_factor h) ≤ most))
     next
 comes_factor most h f next e = record {
   place = factor_done h f;
-  state_is = factor_done_state h f ∙ same_state _ next e;
+  state_is = factor_done_state h f ∙ same_Some _ next e;
   before_is = factor_done_before h f;
   fits = λ fits low. factor_done_fits h f most fits.0 fits.1;
 }
@@ -162,25 +157,25 @@ at_factor most h (Word bytes) next e = comes_as most _ _ _ _ next (λ more. refl
     most h (AName bytes) next e)
 at_factor most h LeftParen next e = record {
   place = FactorPlace (First (FirstTerm (Within h)));
-  state_is = same_state _ next e;
+  state_is = same_Some _ next e;
   before_is = λ more. refl;
-  fits = λ fits low. let is : suc (length (open_at_factor h)) ≤ most = rw (sym (same_state _ next e)) at low in (is, (is, fits.1));
+  fits = λ fits low. let is : suc (length (open_at_factor h)) ≤ most = rw (sym (same_Some _ next e)) at low in (is, (is, fits.1));
 }
 at_factor most h Minus next e = record {
   place = FactorPlace (Signed h);
-  state_is = same_state _ next e;
+  state_is = same_Some _ next e;
   before_is = λ more. refl;
-  fits = λ fits low. let is : suc (length (open_at_factor h)) ≤ most = rw (sym (same_state _ next e)) at low in (is, (is, fits.1));
+  fits = λ fits low. let is : suc (length (open_at_factor h)) ≤ most = rw (sym (same_Some _ next e)) at low in (is, (is, fits.1));
 }
-at_factor most h LetKey next e = absurd (not_some next e)
-at_factor most h Plus next e = absurd (not_some next e)
-at_factor most h Star next e = absurd (not_some next e)
-at_factor most h RightParen next e = absurd (not_some next e)
-at_factor most h LeftBrace next e = absurd (not_some next e)
-at_factor most h RightBrace next e = absurd (not_some next e)
-at_factor most h Equals next e = absurd (not_some next e)
-at_factor most h Semicolon next e = absurd (not_some next e)
-at_factor most h Other next e = absurd (not_some next e)
+at_factor most h LetKey next e = absurd (none-some next e)
+at_factor most h Plus next e = absurd (none-some next e)
+at_factor most h Star next e = absurd (none-some next e)
+at_factor most h RightParen next e = absurd (none-some next e)
+at_factor most h LeftBrace next e = absurd (none-some next e)
+at_factor most h RightBrace next e = absurd (none-some next e)
+at_factor most h Equals next e = absurd (none-some next e)
+at_factor most h Semicolon next e = absurd (none-some next e)
+at_factor most h Other next e = absurd (none-some next e)
 
 -- an expression begins where a statement may
 abbrev pub shown : LineHole → FactorHole
@@ -188,10 +183,10 @@ shown h = First (FirstTerm (Of ShowOf h))
 
 at_brace : (most : ℕ) (h : LineHole) (next : State) → close_brace (open_at_line h) ≡ Some next
     → Comes most (λ more. before_line h (RightBrace ∷ more)) (PlaceFits most (LinePlace h)) next
-at_brace most (InProgram p) next e = absurd (not_some next e)
+at_brace most (InProgram p) next e = absurd (none-some next e)
 at_brace most (InBlock p h) next e = record {
   place = LinePlace (line_added h (BlockLine p));
-  state_is = ap (state AtLine) (line_added_open h (BlockLine p)) ∙ same_state _ next e;
+  state_is = ap (state AtLine) (line_added_open h (BlockLine p)) ∙ same_Some _ next e;
   before_is = line_added_before h (BlockLine p);
   fits = λ fits low. (
     rw line_added_open (omega (arith, fits.0)),
@@ -203,76 +198,76 @@ at_line : (most : ℕ) (h : LineHole) (t : Token) (next : State) → step_in AtL
     → Comes most (λ more. before_line h (t ∷ more)) (PlaceFits most (LinePlace h)) next
 at_line most h LetKey next e = record {
   place = NamePlace h;
-  state_is = same_state _ next e;
+  state_is = same_Some _ next e;
   before_is = λ more. refl;
   fits = λ fits low. fits;
 }
 at_line most h LeftBrace next e = record {
   place = LinePlace (InBlock Empty h);
-  state_is = same_state _ next e;
+  state_is = same_Some _ next e;
   before_is = λ more. refl;
-  fits = λ fits low. let is : suc (length (open_at_line h)) ≤ most = rw (sym (same_state _ next e)) at low in (is, (omega arith, fits.1));
+  fits = λ fits low. let is : suc (length (open_at_line h)) ≤ most = rw (sym (same_Some _ next e)) at low in (is, (omega arith, fits.1));
 }
 at_line most h RightBrace next e = at_brace most h next e
 at_line most h (Word bytes) next e = at_factor most (shown h) (Word bytes) next e
 at_line most h (Number n) next e = at_factor most (shown h) (Number n) next e
 at_line most h LeftParen next e = at_factor most (shown h) LeftParen next e
 at_line most h Minus next e = at_factor most (shown h) Minus next e
-at_line most h Plus next e = absurd (not_some next e)
-at_line most h Star next e = absurd (not_some next e)
-at_line most h RightParen next e = absurd (not_some next e)
-at_line most h Equals next e = absurd (not_some next e)
-at_line most h Semicolon next e = absurd (not_some next e)
-at_line most h Other next e = absurd (not_some next e)
+at_line most h Plus next e = absurd (none-some next e)
+at_line most h Star next e = absurd (none-some next e)
+at_line most h RightParen next e = absurd (none-some next e)
+at_line most h Equals next e = absurd (none-some next e)
+at_line most h Semicolon next e = absurd (none-some next e)
+at_line most h Other next e = absurd (none-some next e)
 
 at_name : (most : ℕ) (h : LineHole) (t : Token) (next : State) → step_in AtName (open_at_line h) t ≡ Some next
     → Comes most (λ more. before_line h (LetKey ∷ t ∷ more)) (PlaceFits most (LinePlace h)) next
 at_name most h (Word bytes) next e = record {
   place = EqualsPlace h bytes;
-  state_is = same_state _ next e;
+  state_is = same_Some _ next e;
   before_is = λ more. refl;
   fits = λ fits low. fits;
 }
-at_name most h LetKey next e = absurd (not_some next e)
-at_name most h (Number n) next e = absurd (not_some next e)
-at_name most h Plus next e = absurd (not_some next e)
-at_name most h Minus next e = absurd (not_some next e)
-at_name most h Star next e = absurd (not_some next e)
-at_name most h LeftParen next e = absurd (not_some next e)
-at_name most h RightParen next e = absurd (not_some next e)
-at_name most h LeftBrace next e = absurd (not_some next e)
-at_name most h RightBrace next e = absurd (not_some next e)
-at_name most h Equals next e = absurd (not_some next e)
-at_name most h Semicolon next e = absurd (not_some next e)
-at_name most h Other next e = absurd (not_some next e)
+at_name most h LetKey next e = absurd (none-some next e)
+at_name most h (Number n) next e = absurd (none-some next e)
+at_name most h Plus next e = absurd (none-some next e)
+at_name most h Minus next e = absurd (none-some next e)
+at_name most h Star next e = absurd (none-some next e)
+at_name most h LeftParen next e = absurd (none-some next e)
+at_name most h RightParen next e = absurd (none-some next e)
+at_name most h LeftBrace next e = absurd (none-some next e)
+at_name most h RightBrace next e = absurd (none-some next e)
+at_name most h Equals next e = absurd (none-some next e)
+at_name most h Semicolon next e = absurd (none-some next e)
+at_name most h Other next e = absurd (none-some next e)
 
 at_equals : (most : ℕ) (h : LineHole) (name : List ℕ) (t : Token) (next : State) → step_in AtEquals (open_at_line h) t ≡ Some next
     → Comes most (λ more. before_line h (LetKey ∷ Word name ∷ t ∷ more)) (PlaceFits most (LinePlace h)) next
 at_equals most h name Equals next e = record {
   place = FactorPlace (First (FirstTerm (Of (LetOf name) h)));
-  state_is = same_state _ next e;
+  state_is = same_Some _ next e;
   before_is = λ more. refl;
   fits = λ fits low. fits;
 }
-at_equals most h name LetKey next e = absurd (not_some next e)
-at_equals most h name (Word bytes) next e = absurd (not_some next e)
-at_equals most h name (Number n) next e = absurd (not_some next e)
-at_equals most h name Plus next e = absurd (not_some next e)
-at_equals most h name Minus next e = absurd (not_some next e)
-at_equals most h name Star next e = absurd (not_some next e)
-at_equals most h name LeftParen next e = absurd (not_some next e)
-at_equals most h name RightParen next e = absurd (not_some next e)
-at_equals most h name LeftBrace next e = absurd (not_some next e)
-at_equals most h name RightBrace next e = absurd (not_some next e)
-at_equals most h name Semicolon next e = absurd (not_some next e)
-at_equals most h name Other next e = absurd (not_some next e)
+at_equals most h name LetKey next e = absurd (none-some next e)
+at_equals most h name (Word bytes) next e = absurd (none-some next e)
+at_equals most h name (Number n) next e = absurd (none-some next e)
+at_equals most h name Plus next e = absurd (none-some next e)
+at_equals most h name Minus next e = absurd (none-some next e)
+at_equals most h name Star next e = absurd (none-some next e)
+at_equals most h name LeftParen next e = absurd (none-some next e)
+at_equals most h name RightParen next e = absurd (none-some next e)
+at_equals most h name LeftBrace next e = absurd (none-some next e)
+at_equals most h name RightBrace next e = absurd (none-some next e)
+at_equals most h name Semicolon next e = absurd (none-some next e)
+at_equals most h name Other next e = absurd (none-some next e)
 
 abbrev TermsFit : ExprHole → Terms → ℕ → Type 0
 TermsFit h s most = (terms_nest s + length (open_at_expr h) ≤ most) × ExprFits h most
 
 no_line_paren : (h : LineHole) (next : State) → close_paren (open_at_line h) ≡ Some next → ⊥
-no_line_paren (InProgram p) next e = not_some next e
-no_line_paren (InBlock p h) next e = not_some next e
+no_line_paren (InProgram p) next e = none-some next e
+no_line_paren (InBlock p h) next e = none-some next e
 
 closes_paren : (most : ℕ) (h : ExprHole) (s : Terms) (next : State) → close_paren (open_at_expr h) ≡ Some next
     → Comes most (λ more. before_expr h (spell_terms s (RightParen ∷ more))) (TermsFit h s most) next
@@ -281,8 +276,8 @@ closes_paren most (Within h) s next e =
 closes_paren most (Of owner h) s next e = absurd (no_line_paren h next e)
 
 line_end_state : (h : LineHole) (next : State) → end_line (open_at_line h) ≡ Some next → state AtLine (open_at_line h) ≡ next
-line_end_state (InProgram p) next e = same_state _ next e
-line_end_state (InBlock p h) next e = same_state _ next e
+line_end_state (InProgram p) next e = same_Some _ next e
+line_end_state (InBlock p h) next e = same_Some _ next e
 
 owned_before : (owner : Owner) (h : LineHole) (s : Terms) (more : List Token)
     → before_line (line_added h (owned owner s)) more ≡ before_line h (owner_tokens owner (spell_terms s (Semicolon ∷ more)))
@@ -296,7 +291,7 @@ owned_fits ShowOf h s most fits low = line_added_fits h (ShowLine s) most fits l
 
 ends_line : (most : ℕ) (h : ExprHole) (s : Terms) (next : State) → end_line (open_at_expr h) ≡ Some next
     → Comes most (λ more. before_expr h (spell_terms s (Semicolon ∷ more))) (TermsFit h s most) next
-ends_line most (Within h) s next e = absurd (not_some next e)
+ends_line most (Within h) s next e = absurd (none-some next e)
 ends_line most (Of owner h) s next e = record {
   place = LinePlace (line_added h (owned owner s));
   state_is = ap (state AtLine) (line_added_open h (owned owner s)) ∙ line_end_state h next e;
@@ -308,21 +303,21 @@ at_behind : (most : ℕ) (f : Factors) (h : TermHole) (t : Token) (next : State)
     → Comes most (λ more. before_term h (spell_factors f (t ∷ more))) (PlaceFits most (BehindPlace f h)) next
 at_behind most f h Star next e = record {
   place = FactorPlace (Behind f h);
-  state_is = same_state _ next e;
+  state_is = same_Some _ next e;
   before_is = λ more. refl;
   fits = λ fits low. (omega (arith, fits.0), (fits.0, fits.1));
 }
 at_behind most f h Plus next e =
     record {
       place = FactorPlace (First (ToAdd (terms_done h f) (around h)));
-      state_is = ap (state AtFactor) (terms_open h) ∙ same_state _ next e;
+      state_is = ap (state AtFactor) (terms_open h) ∙ same_Some _ next e;
       before_is = λ more. terms_before h f (Plus ∷ more);
       fits = λ fits low. let all = terms_fit h f most fits.0 fits.1 in (omega (arith, all.0), all);
     }
 at_behind most f h Minus next e =
     record {
       place = FactorPlace (First (ToTake (terms_done h f) (around h)));
-      state_is = ap (state AtFactor) (terms_open h) ∙ same_state _ next e;
+      state_is = ap (state AtFactor) (terms_open h) ∙ same_Some _ next e;
       before_is = λ more. terms_before h f (Minus ∷ more);
       fits = λ fits low. let all = terms_fit h f most fits.0 fits.1 in (omega (arith, all.0), all);
     }
@@ -332,14 +327,14 @@ at_behind most f h RightParen next e =
 at_behind most f h Semicolon next e =
     comes_as most _ _ _ _ next (λ more. terms_before h f (Semicolon ∷ more)) (λ fits. terms_fit h f most fits.0 fits.1)
     (ends_line most (around h) (terms_done h f) next (ap end_line (terms_open h) ∙ e))
-at_behind most f h LetKey next e = absurd (not_some next e)
-at_behind most f h (Word bytes) next e = absurd (not_some next e)
-at_behind most f h (Number n) next e = absurd (not_some next e)
-at_behind most f h LeftParen next e = absurd (not_some next e)
-at_behind most f h LeftBrace next e = absurd (not_some next e)
-at_behind most f h RightBrace next e = absurd (not_some next e)
-at_behind most f h Equals next e = absurd (not_some next e)
-at_behind most f h Other next e = absurd (not_some next e)
+at_behind most f h LetKey next e = absurd (none-some next e)
+at_behind most f h (Word bytes) next e = absurd (none-some next e)
+at_behind most f h (Number n) next e = absurd (none-some next e)
+at_behind most f h LeftParen next e = absurd (none-some next e)
+at_behind most f h LeftBrace next e = absurd (none-some next e)
+at_behind most f h RightBrace next e = absurd (none-some next e)
+at_behind most f h Equals next e = absurd (none-some next e)
+at_behind most f h Other next e = absurd (none-some next e)
 
 pub follows : (most : ℕ) (c : Place) (t : Token) (next : State) → step (state_at c) t ≡ Some next
     → Comes most (λ more. before c (t ∷ more)) (PlaceFits most c) next

@@ -3,6 +3,8 @@ use Rattle.std.proofs.Common.{◌≡◌, ℕ, ◌≤◌, ◌<◌, ◌⊎◌, inl
 use Rattle.std.specs.Prelude.{Result, nat_lt}
 use Rattle.std.specs.List.{AllByRecursion}
 use Rattle.std.proofs.lemmas.Bool.Decides.{nat_tests}
+use Rattle.std.proofs.lemmas.Option.{none-some, same_Some}
+use Rattle.arena_rules.proofs.ListLemmas.{all_append}
 use Rattle.tree_rules.specs.Tokens.{Token, Placed, tokens, without_places}
 use Rattle.tree_rules.specs.Trees.{Stmts}
 use Rattle.tree_rules.specs.Grammar.{Program, spell, nest, trees_of, IsProgram, Begins, BeginsWithin}
@@ -18,7 +20,7 @@ use Rattle.tree_rules.proofs.Holes.{InProgram, InBlock}
 use Rattle.tree_rules.proofs.Places.{Place, LinePlace, NamePlace, EqualsPlace, FactorPlace, BehindPlace, state_at, before, PlaceFits}
 use Rattle.tree_rules.proofs.ProgramPlaces.{leads_begin}
 use Rattle.tree_rules.proofs.Readings.{one_program}
-use Rattle.tree_rules.proofs.FirstTokens.{not_some, goes_first, goes_step, one_state, leads, program_over, begun, begun_step, begins_within, begins, step_begins, step_begins_some, size_fits, big_not_fit}
+use Rattle.tree_rules.proofs.FirstTokens.{goes_first, goes_step, one_state, leads, program_over, begun, begun_step, begins_within, begins, step_begins, step_begins_some, size_fits, big_not_fit}
 
 -- ---- What the machine says is right
 
@@ -52,10 +54,6 @@ passed front s a = record {
 without_append : (xs ys : List Placed) → without_places (xs ++ ys) ≡ without_places xs ++ without_places ys
 without_append [] ys = refl
 without_append (x ∷ xs) ys = ap (λ more. x.token ∷ more) (without_append xs ys)
-
-all_append : (xs ys : List Token) → AllByRecursion Fits xs → AllByRecursion Fits ys → AllByRecursion Fits (xs ++ ys)
-all_append [] ys h g = g
-all_append (x ∷ xs) ys h g = (h.0, all_append xs ys h.1 g)
 
 not_start_open : (mode : Mode) (o : Open) (opens : List Open) → state mode (o ∷ opens) ≡ start → ⊥
 not_start_open mode o opens is = let e : o ∷ opens ≡ [] = ap (λ (s : State). s.opens) is in absurd (cc)
@@ -145,7 +143,7 @@ further : (front : List Placed) (t : Placed) (s next : State) → IsAt front s �
 further front t s next a is low fits = record {
   goes_is = subst (λ xs. goes most_nest start xs ≡ Some next) (sym (without_append front (t ∷ [])))
       (goes_join most_nest start s next (without_places front) t.token a.goes_is is low);
-  fit = subst (AllByRecursion Fits) (sym (without_append front (t ∷ []))) (all_append (without_places front) (t.token ∷ []) a.fit (
+  fit = subst (AllByRecursion Fits) (sym (without_append front (t ∷ []))) (all_append Fits (without_places front) (t.token ∷ []) a.fit (
     fits,
     tt,
   ));
@@ -181,7 +179,7 @@ judges_step front t s a None none = (refl, no_step)
     no_step : Begins (without_places front ++ t.token ∷ []) → ⊥
     no_step b =
         let g = begun_step (nest b.program) most_nest (without_places front) t.token s a.goes_is (begins_within _ b) in
-        not_some g.next (sym none ∙ g.step_is)
+        none-some g.next (sym none ∙ g.step_is)
 judges_step front t s a (Some next) is = judges_depth front t s next a is (nat_lt most_nest (length next.opens)) refl
 
 judges : (front : List Placed) (t : Placed) (s : State) → IsAt front s → Judges front t (judged s t)
@@ -308,18 +306,12 @@ err_says : (bytes : List ℕ) (q : Refused) → TreeOf bytes (Err q) → refusal
 err_says bytes q (inl first) = first_says (length bytes) (tokens bytes) q first
 err_says bytes q (inr early) = early_says bytes q early
 
-none_some : (q : Refused) → ◌≡◌ {A = Option Refused} None (Some q) → ⊥
-none_some q e = cc
-
-some_same : (r q : Refused) → Some r ≡ Some q → r ≡ q
-some_same r q e = cc
-
 -- A text has one reading at most.
 pub same_reading : (bytes : List ℕ) (r q : Result Stmts Refused) → TreeOf bytes r → TreeOf bytes q → r ≡ q
 same_reading bytes (Ok a) (Ok b) h g = ap Ok (one_program (without_places (tokens bytes)) a b h.most g.most h.program g.program).0
-same_reading bytes (Ok a) (Err q) h g = absurd (none_some q (sym (good_says bytes a h) ∙ err_says bytes q g))
-same_reading bytes (Err r) (Ok b) h g = absurd (none_some r (sym (good_says bytes b g) ∙ err_says bytes r h))
-same_reading bytes (Err r) (Err q) h g = ap Err (some_same r q (sym (err_says bytes r h) ∙ err_says bytes q g))
+same_reading bytes (Ok a) (Err q) h g = absurd (none-some q (sym (good_says bytes a h) ∙ err_says bytes q g))
+same_reading bytes (Err r) (Ok b) h g = absurd (none-some r (sym (good_says bytes b g) ∙ err_says bytes r h))
+same_reading bytes (Err r) (Err q) h g = ap Err (same_Some r q (sym (err_says bytes r h) ∙ err_says bytes q g))
 
 some_from : (bytes : List ℕ) (o : Option Refused) → IsReading bytes o → (r : Result Stmts Refused) × TreeOf bytes r
 some_from bytes None h = (Ok h.0, h.1)

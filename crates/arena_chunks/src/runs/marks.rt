@@ -2,7 +2,7 @@
 ghost use Rattle.std.specs.Prelude.{◌≡◌, ℕ, ◌-◌, ◌<◌, ◌++◌, ◌∷◌, [], List, length, take, get_or, if◌then◌else◌, false, true, IsTrue, OnOk, OnErr};
 ghost use Rattle.std.specs.Option.{is_some};
 ghost use Rattle.call_rules.specs.Machine.{mark_named};
-ghost use Rattle.arena_chunks.specs.Marks.{Noted, named, marks_from, stands, LetsGo, Forgets};
+ghost use Rattle.arena_chunks.specs.Runs.Marks.{Noted, named, marks_from, stands, LetsGo, Forgets};
 
 use crate::runs::names::Names;
 use arena_core::{Arena, Checkpoint};
@@ -32,7 +32,7 @@ pub(crate) struct Marks {
 
 impl Model for Marks {
     ghost use Rattle.std.specs.Prelude.{reverse};
-    ghost use Rattle.arena_chunks.specs.Marks.{Noted, Knows};
+    ghost use Rattle.arena_chunks.specs.Runs.Marks.{Noted, Knows};
 
     ghost Value = { Noted };
 

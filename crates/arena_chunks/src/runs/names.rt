@@ -4,7 +4,7 @@ ghost use Rattle.std.specs.Ordering.{nat_cmp};
 ghost use Rattle.std.specs.FinMap as map;
 ghost use Rattle.call_rules.specs.Machine.{is_left};
 ghost use Rattle.arena_chunks.specs.Runs.{held_blocks};
-ghost use Rattle.arena_chunks.specs.Marks.{stands};
+ghost use Rattle.arena_chunks.specs.Runs.Marks.{stands};
 
 use crate::runs::others::Others;
 use arena_core::Arena;
@@ -30,8 +30,8 @@ impl Model for Names {
     ghost use Rattle.std.specs.Ordering.{nat_cmp};
     ghost use Rattle.std.specs.FinMap as map;
     ghost use Rattle.call_rules.specs.Machine.{Held};
-    ghost use Rattle.arena_chunks.specs.Names.{held_with, HoldsNoneBelow};
-    ghost use Rattle.arena_chunks.specs.PlaceCode.{place_code};
+    ghost use Rattle.arena_chunks.specs.Runs.Names.{held_with, HoldsNoneBelow};
+    ghost use Rattle.arena_chunks.specs.Runs.PlaceCode.{place_code};
     ghost use Rattle.std.specs.Coded.{coded_ℕ};
 
     ghost Value = { Held };

@@ -18,7 +18,7 @@ impl Model for Others {
     ghost use Rattle.std.specs.Ordering.{nat_cmp};
     ghost use Rattle.std.specs.FinMap as map;
     ghost use Rattle.call_rules.specs.Machine.{Held};
-    ghost use Rattle.arena_chunks.specs.PlaceCode.{place_code};
+    ghost use Rattle.arena_chunks.specs.Runs.PlaceCode.{place_code};
     ghost use Rattle.std.specs.Coded.{coded_ℕ};
 
     ghost Value = { Held };

@@ -1,7 +1,7 @@
 // The receiver of a run's replies.
 ghost use Rattle.std.specs.Prelude.{◌≡◌, ℕ, ◌+◌, ◌-◌, ◌<◌, ◌≤◌, List, [], ◌∷◌, ◌++◌, false, IsOk, OnOk, OnErr, vec_len, vec_capacity};
 ghost use Rattle.call_rules.specs.declared.calls.Reply.{Reply};
-ghost use Rattle.arena_chunks.specs.Replies.{has_bytes, StillTaken, TakesMore};
+ghost use Rattle.arena_chunks.specs.Runs.Replies.{has_bytes, StillTaken, TakesMore};
 
 use arena_rules::OutOfMemory;
 use call_rules::{Bytes, Reply};

@@ -1,10 +1,10 @@
 // A run of calls.
 ghost use Rattle.std.specs.Prelude.{◌<◌, ◌≤◌, List, [], ◌∷◌, IfOk, IfErr, OnOk, OnErr};
 ghost use Rattle.call_rules.specs.declared.calls.Reply.{Reply};
-ghost use Rattle.arena_chunks.specs.Replies.{StillTaken, TakesMore};
+ghost use Rattle.arena_chunks.specs.Runs.Replies.{StillTaken, TakesMore};
 ghost use Rattle.arena_store.specs.Source.{Source, view};
 ghost use Rattle.arena_chunks.specs.Runs.{Runs, Stops, StopsWith};
-ghost use Rattle.arena_chunks.specs.Running.{IsRunning, IsOnTheWay, GoesOn, StaysAt, StaysBehind, EndsWith};
+ghost use Rattle.arena_chunks.specs.Runs.Running.{IsRunning, IsOnTheWay, GoesOn, StaysAt, StaysBehind, EndsWith};
 
 use crate::runs::marks::Marks;
 use crate::runs::names::Names;

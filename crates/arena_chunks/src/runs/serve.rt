@@ -3,12 +3,12 @@ ghost use Rattle.std.specs.Prelude.{◌≡◌, ℕ, ◌<◌, ◌≤◌, [], ◌�
 ghost use Rattle.std.specs.FinMap as map;
 ghost use Rattle.call_rules.specs.declared.calls.Call.{Call};
 ghost use Rattle.call_rules.specs.declared.calls.Reply.{Reply};
-ghost use Rattle.arena_chunks.specs.Replies.{has_bytes, StillTaken, TakesMore};
+ghost use Rattle.arena_chunks.specs.Runs.Replies.{has_bytes, StillTaken, TakesMore};
 ghost use Rattle.arena_store.specs.Source.{Source, view};
-ghost use Rattle.arena_chunks.specs.Marks.{Noted, named, Tracks};
+ghost use Rattle.arena_chunks.specs.Runs.Marks.{Noted, named, Tracks};
 ghost use Rattle.arena_store.specs.Memory.{is_readable, block_at};
 ghost use Rattle.arena_core.specs.Answers.{OnCounted};
-ghost use Rattle.arena_chunks.specs.Serving.{Serves, ServesNoting, ServesRun, Wants, Holds, resizing, is_wrong, ResizesFilling};
+ghost use Rattle.arena_chunks.specs.Runs.Serving.{Serves, ServesNoting, ServesRun, Wants, Holds, resizing, is_wrong, ResizesFilling};
 
 use crate::runs::names::Names;
 use crate::runs::replies::Replies;

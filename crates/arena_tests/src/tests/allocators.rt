@@ -1,6 +1,6 @@
 // Tests of allocators, which are arenas with their sources.
-use super::{ample, has, layout, reads, refusing, same};
-use arena_chunks::Allocator;
+use super::{ample, has, held, layout, must, reads, refusing, same};
+use arena_chunks::{Allocator, Arena, MemoryChunks};
 
 #[test]
 fn values_and_texts_until_a_reset(rt: HostRuntime) {
@@ -24,4 +24,36 @@ fn of_a_capacity(rt: HostRuntime) {
     let made = Allocator::with_capacity(rt.alloc(), chunks, 10);
     let a = made.ok().expect(&rt, "an allocator");
     same(&rt, (a.data_end(), a.capacity()), (4160, 64));
+}
+
+// Sets the second byte.
+fn set_second(bytes: &mut [u8], value: u8) {
+    if let Some(byte) = bytes.get_mut(1) {
+        *byte = value;
+    }
+}
+
+// Two bytes of a block are copied to another one, after one of them was set through a borrow.
+#[test]
+fn bytes_that_are_lent_and_copied(rt: HostRuntime) {
+    let mut a = ample(rt.alloc());
+    let one = a.alloc_layout(layout(&rt, 3, 1)).expect(&rt, "a block");
+    a.write(one, 0, &[1, 2, 3]);
+    let other = a.alloc_layout(layout(&rt, 2, 1)).expect(&rt, "a block");
+    let one = held(&rt, &a, one);
+    set_second(a.read_mut(one), 9);
+    reads(&rt, "lent", &a, one, &[1, 9, 3]);
+    let (one, other) = (held(&rt, &a, one), held(&rt, &a, other));
+    must(&rt, "sizes", one.size == 3);
+    must(&rt, "sizes", other.size == 2);
+    a.copy_between(one, 1, other, 0, 2);
+    reads(&rt, "copied", &a, other, &[9, 3]);
+}
+
+#[test]
+fn a_block_of_an_arena(rt: HostRuntime) {
+    let mut arena = Arena::<1>::new(rt.alloc());
+    let mut chunks = MemoryChunks::new(rt.alloc(), 1 << 20);
+    let block = arena.alloc_layout(&mut chunks, layout(&rt, 10, 1));
+    same(&rt, block.expect(&rt, "a block").addr, 20406);
 }

@@ -7,8 +7,11 @@ pub(super) const ZEROS: &[Step] = &[
     Step::Write(0, &[9]),
     Step::GrowZeroed(0, 3, 1, Ok(20413)),
     Step::Read(1, &[9, 0, 0]),
-    Step::Alloc(10, 1, Ok(20403)),
-    Step::GrowZeroed(2, 10, 16, Ok(20384)),
+    Step::Case("new bytes are zeros, at alignment 16", &[]),
+    Step::Alloc(10, 1, Ok(20406)),
+    Step::Write(0, &[9]),
+    Step::GrowZeroed(0, 10, 16, Ok(20384)),
+    Step::Read(1, &[9, 0, 0, 0, 0, 0, 0, 0, 0, 0]),
 ];
 
 pub(super) const HELD: &[Step] = &[

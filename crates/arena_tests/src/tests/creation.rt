@@ -1,4 +1,7 @@
 // Tests of how arenas are created.
+ghost use Rattle.std.specs.Prelude.{IsTrue};
+ghost use Rattle.arena_rules.specs.State.{is_min_align};
+
 use super::stage::Stage;
 use super::steps::Step;
 use super::{must, refusing, same, same_at};
@@ -86,7 +89,7 @@ fn other_constructors_of_a_capacity(rt: HostRuntime) {
     takes::<8>(&rt, alloc, "try of 8", arena, OF_10_BYTES);
 }
 
-// The size of a region, and steps on an arena of least alignment 16 over it.
+// The size of a region, and steps on an arena of least alignment 1 over it.
 const REGIONS: &[(usize, &[Step])] = &[
     (
         48,
@@ -108,26 +111,27 @@ const REGIONS: &[(usize, &[Step])] = &[
             Step::AcceptsAt(0, 0, 16, false),
         ],
     ),
-    (
-        4096 + 48,
-        &[
-            Step::Alloc(4097, 1, Err(0)),
-            Step::Alloc((1 << 63) - 1, 1, Err(0)),
-            Step::Alloc(4096, 1, Ok(4096)),
-            Step::Alloc(1, 1, Err(0)),
-            Step::Reset,
-            Step::Alloc(1, 1, Ok(8176)),
-            Step::Requests(&[]),
-        ],
-    ),
+];
+
+// Steps on an arena of least alignment 16 over a region of 4144 bytes.
+const BY_16: &[Step] = &[
+    Step::Alloc(4097, 1, Err(0)),
+    Step::Alloc((1 << 63) - 1, 1, Err(0)),
+    Step::Alloc(4096, 1, Ok(4096)),
+    Step::Alloc(1, 1, Err(0)),
+    Step::Reset,
+    Step::Alloc(1, 1, Ok(8176)),
+    Step::Requests(&[]),
 ];
 
 // Takes the steps on an arena over a region that is filled with 7.
-fn region(rt: &impl Abort, alloc: Global, size: usize, steps: &[Step]) {
+fn region<const M: usize>(rt: &impl Abort, alloc: Global, size: usize, steps: &[Step])
+    requires { IsTrue (is_min_align M) }
+{
     must(rt, size, size % 16 == 0);
     must(rt, size, size >= 48);
     let bytes = vec![in alloc; 7; size].expect(rt, "memory");
-    let arena = Arena::<16>::from_raw_parts(alloc, bytes).expect(rt, "an arena");
+    let arena = Arena::<M>::from_raw_parts(alloc, bytes).expect(rt, "an arena");
     must(rt, size, !arena.is_growing());
     takes(rt, alloc, "a region", Ok(arena), steps);
 }
@@ -135,6 +139,17 @@ fn region(rt: &impl Abort, alloc: Global, size: usize, steps: &[Step]) {
 #[test]
 fn regions(rt: HostRuntime) {
     for (size, steps) in REGIONS {
-        region(&rt, rt.alloc(), *size, steps);
+        region::<1>(&rt, rt.alloc(), *size, steps);
     }
+    region::<16>(&rt, rt.alloc(), 4096 + 48, BY_16);
+}
+
+// The bytes above a cursor that is set are in use.
+#[test]
+fn a_cursor_that_is_set(rt: HostRuntime) {
+    let bytes = vec![in rt.alloc(); 7; 64].expect(&rt, "memory");
+    let made = Arena::<1>::from_raw_parts(rt.alloc(), bytes);
+    let mut arena = made.expect(&rt, "an arena");
+    arena.set_cursor(4100);
+    same(&rt, (arena.used_bytes(), arena.chunk_capacity()), (12, 4));
 }

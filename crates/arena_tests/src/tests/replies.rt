@@ -61,7 +61,7 @@ const ENDS: &[Run] = &[
     },
 ];
 
-// The calls that make three chunks, with some requests refused.
+// The calls that make three chunks, and then a reset, with some requests refused.
 const REFUSED: &[Run] = &[
     Run {
         name: "the first",
@@ -74,6 +74,9 @@ const REFUSED: &[Run] = &[
             (Row::Allocated, Says::Number(49024)),
             (Row::Alloc(3, 32640, 1), Says::Placed(86048, 0)),
             (Row::Allocated, Says::Number(114496)),
+            (Row::Reset, Says::Done),
+            (Row::Allocated, Says::Number(65472)),
+            (Row::Used, Says::Number(0)),
         ],
         requests: &[(16320, 16), (16320, 16), (32704, 16), (65472, 16)],
     },
@@ -84,9 +87,13 @@ const REFUSED: &[Run] = &[
             (Row::Alloc(0, 64, 1), Says::Placed(20352, 0)),
             (Row::Alloc(1, 64, 1), Says::Placed(20288, 0)),
             (Row::Alloc(2, 16320, 1), Says::Placed(20464, 1)),
+            (Row::Used, Says::Number(16448)),
             (Row::Allocated, Says::Number(32640)),
             (Row::Alloc(3, 32640, 1), Says::Placed(36896, 0)),
             (Row::Allocated, Says::Number(65344)),
+            (Row::Reset, Says::Done),
+            (Row::Allocated, Says::Number(32704)),
+            (Row::Used, Says::Number(0)),
         ],
         requests: &[(16320, 16), (32704, 16), (16320, 16), (32704, 16)],
     },
@@ -97,10 +104,13 @@ const REFUSED: &[Run] = &[
             (Row::Alloc(0, 64, 1), Says::Placed(20352, 0)),
             (Row::Alloc(1, 64, 1), Says::Placed(20288, 0)),
             (Row::Alloc(2, 16320, 1), Says::Placed(36848, 0)),
+            (Row::Used, Says::Number(16448)),
+            (Row::Allocated, Says::Number(49024)),
             (Row::Alloc(3, 32640, 1), Says::Placed(53280, 1)),
             (Row::Allocated, Says::Number(81728)),
             (Row::Reset, Says::Done),
             (Row::Allocated, Says::Number(32704)),
+            (Row::Used, Says::Number(0)),
         ],
         requests: &[(16320, 16), (32704, 16), (65472, 16), (32704, 16)],
     },
@@ -113,8 +123,13 @@ const REFUSED: &[Run] = &[
             (Row::Alloc(2, 16320, 1), Says::AllocErr(2)),
             (Row::Used, Says::Number(128)),
             (Row::Allocated, Says::Number(16320)),
+            (Row::Alloc(3, 32640, 1), Says::Placed(20528, 0)),
+            (Row::Allocated, Says::Number(49024)),
+            (Row::Reset, Says::Done),
+            (Row::Allocated, Says::Number(32704)),
+            (Row::Used, Says::Number(0)),
         ],
-        requests: &[(16320, 16), (32704, 16), (16320, 16)],
+        requests: &[(16320, 16), (32704, 16), (16320, 16), (32704, 16)],
     },
 ];
 

@@ -17,9 +17,9 @@ pub(super) const GROWN: &[Step] = &[
     Step::Alloc(16, 16, Ok(20400)),
     Step::Grow(0, 20, 4, Ok(20384)),
     Step::Used(32),
-    Step::Case("to alignment 16", &[]),
+    Step::Case("to alignment 16 at its own size", &[]),
     Step::Alloc(10, 1, Ok(20406)),
-    Step::Grow(0, 11, 16, Ok(20384)),
+    Step::Grow(0, 10, 16, Ok(20384)),
     Step::Used(32),
     Step::Statistics(1, 1),
 ];

@@ -1,8 +1,8 @@
 // Loops over blocks.
 ghost use Rattle.std.specs.Prelude.{◌≡◌, IfOk};
 
-use super::{Clock, Failed, Timed, new_allocator};
-use arena_chunks::{Alloc, Allocator, MemoryChunks};
+use super::{Clock, Failed, Heap, Timed, new_allocator};
+use arena_chunks::Alloc;
 use arena_place::Layout;
 
 // Between two resets: the number of blocks that are placed, and the number of bytes by which a block of one byte is
@@ -27,11 +27,7 @@ fn small_layouts() -> Result<[Layout; 64], Failed> {
 }
 
 // Places blocks, and returns the number of bytes in use.
-fn place_round(
-    a: &mut Allocator<MemoryChunks>,
-    layouts: &[Layout; 64],
-    blocks: u64,
-) -> Result<u64, Failed> {
+fn place_round(a: &mut Heap, layouts: &[Layout; 64], blocks: u64) -> Result<u64, Failed> {
     for i in 0..blocks {
         a.alloc_layout(layouts[(i % 64) as usize])?;
     }
@@ -41,11 +37,7 @@ fn place_round(
 }
 
 /// Blocks of mixed small layouts, in a chunk that is reset before it is full.
-pub fn alloc_warm(
-    rt: &HostRuntime,
-    a: &mut Allocator<MemoryChunks>,
-    calls: u64,
-) -> Result<Timed, Failed> {
+pub fn alloc_warm(rt: &HostRuntime, a: &mut Heap, calls: u64) -> Result<Timed, Failed> {
     let layouts = small_layouts()?;
     let clock = Clock::start(rt);
     let mut number: u64 = 0;
@@ -57,7 +49,7 @@ pub fn alloc_warm(
 }
 
 // Places a block of one byte, grows it one byte at a time, and returns the number of bytes in use.
-fn grow_round(a: &mut Allocator<MemoryChunks>, most: u64) -> Result<u64, Failed> {
+fn grow_round(a: &mut Heap, most: u64) -> Result<u64, Failed> {
     let mut block = a.alloc_layout(layout(1, 1)?)?;
     for size in 2..=most {
         block = a.grow(block, layout(size, 1)?)?;
@@ -68,11 +60,7 @@ fn grow_round(a: &mut Allocator<MemoryChunks>, most: u64) -> Result<u64, Failed>
 }
 
 /// A block of 1 to 64 bytes, grown by one byte at a time.
-pub fn grow_at_cursor(
-    rt: &HostRuntime,
-    a: &mut Allocator<MemoryChunks>,
-    calls: u64,
-) -> Result<Timed, Failed> {
+pub fn grow_at_cursor(rt: &HostRuntime, a: &mut Heap, calls: u64) -> Result<Timed, Failed> {
     let clock = Clock::start(rt);
     let mut number: u64 = 0;
     for _ in 0..calls / GROWN {
@@ -84,11 +72,7 @@ pub fn grow_at_cursor(
     clock.stop(rt, number)
 }
 
-fn reset_often(
-    rt: &HostRuntime,
-    a: &mut Allocator<MemoryChunks>,
-    calls: u64,
-) -> Result<Timed, Failed> {
+fn reset_often(rt: &HostRuntime, a: &mut Heap, calls: u64) -> Result<Timed, Failed> {
     let eight = layout(8, 8)?;
     let clock = Clock::start(rt);
     let mut number: u64 = 0;
@@ -112,7 +96,7 @@ fn large_layouts() -> Result<[Layout; 3], Failed> {
 }
 
 // Places blocks with these layouts, resets, and returns the number of bytes that the chunks have after that.
-fn placed_and_reset(a: &mut Allocator<MemoryChunks>, layouts: &[Layout; 3]) -> Result<u64, Failed> {
+fn placed_and_reset(a: &mut Heap, layouts: &[Layout; 3]) -> Result<u64, Failed> {
     for layout in layouts {
         a.alloc_layout(*layout)?;
     }

@@ -1,15 +1,14 @@
 // Loops in a chunk that is reset before it is full.
-use super::{Clock, Failed, Timed};
-use arena_chunks::{Allocator, MemoryChunks};
+use super::{Clock, Failed, Heap, Timed};
 
 /// The number of values that are placed between two resets, in a chunk with room for all of them.
 pub const BATCH: u64 = 65_536;
 
 /// Places values through a closure that places a given number of them and adds up what it reads, and resets after
 /// each batch.
-pub fn batches<F: FnMut(&mut Allocator<MemoryChunks>, u64) -> Result<u64, Failed>>(
+pub fn batches<F: FnMut(&mut Heap, u64) -> Result<u64, Failed>>(
     rt: &HostRuntime,
-    a: &mut Allocator<MemoryChunks>,
+    a: &mut Heap,
     values: u64,
     mut place: F,
 ) -> Result<Timed, Failed>

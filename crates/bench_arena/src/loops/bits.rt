@@ -3,9 +3,8 @@ ghost use Rattle.std.specs.Prelude.{◌≡◌, ◌<◌, IfOk, IsTrue};
 ghost use Rattle.arena_chunks.specs.Frame.{AreBlocksApart};
 ghost use Rattle.arena_bits.specs.Sets.{IsSetIn};
 
-use super::{Clock, Failed, Timed, new_allocator};
+use super::{Clock, Failed, Heap, Timed, new_allocator};
 use arena_bits::BitSet;
-use arena_chunks::{Allocator, MemoryChunks};
 use arena_items::laws::frame_law;
 
 // The capacity of sets that are joined.
@@ -41,7 +40,7 @@ impl Scattered {
 }
 
 // Returns a set with every third number.
-fn thirds(a: &mut Allocator<MemoryChunks>, capacity: u64) -> Result<BitSet, Failed>
+fn thirds(a: &mut Heap, capacity: u64) -> Result<BitSet, Failed>
     ensures { IfOk result (λ set. IsSetIn a.new.memory set × (set.capacity ≡ capacity)) }
 {
     let mut set = BitSet::new_in(capacity, a)?;
@@ -52,17 +51,13 @@ fn thirds(a: &mut Allocator<MemoryChunks>, capacity: u64) -> Result<BitSet, Fail
 }
 
 // Returns the number of elements of a set.
-fn count(a: &Allocator<MemoryChunks>, set: &BitSet) -> u64
+fn count(a: &Heap, set: &BitSet) -> u64
     requires { IsSetIn a.now.memory set.now }
 {
     set.ones(a).count() as u64
 }
 
-fn set_scattered(
-    rt: &HostRuntime,
-    a: &mut Allocator<MemoryChunks>,
-    calls: u64,
-) -> Result<Timed, Failed> {
+fn set_scattered(rt: &HostRuntime, a: &mut Heap, calls: u64) -> Result<Timed, Failed> {
     let mut set = BitSet::new_in(calls, a)?;
     let mut scattered = Scattered::below(calls);
     let clock = Clock::start(rt);
@@ -82,11 +77,7 @@ pub fn bitset_set(rt: &HostRuntime, calls: u64) -> Result<Timed, Failed> {
     set_scattered(rt, &mut a, calls)
 }
 
-fn set_ascending(
-    rt: &HostRuntime,
-    a: &mut Allocator<MemoryChunks>,
-    calls: u64,
-) -> Result<Timed, Failed> {
+fn set_ascending(rt: &HostRuntime, a: &mut Heap, calls: u64) -> Result<Timed, Failed> {
     let mut set = BitSet::new_in(calls, a)?;
     let clock = Clock::start(rt);
     for bit in 0..calls {
@@ -106,11 +97,7 @@ pub fn bitset_set_ascending(rt: &HostRuntime, calls: u64) -> Result<Timed, Faile
 }
 
 /// Numbers that are looked up in a scattered order. A third are in the set.
-pub fn bitset_contains(
-    rt: &HostRuntime,
-    a: &mut Allocator<MemoryChunks>,
-    calls: u64,
-) -> Result<Timed, Failed> {
+pub fn bitset_contains(rt: &HostRuntime, a: &mut Heap, calls: u64) -> Result<Timed, Failed> {
     let set = thirds(a, calls)?;
     let mut scattered = Scattered::below(calls);
     let clock = Clock::start(rt);
@@ -122,11 +109,7 @@ pub fn bitset_contains(
 }
 
 /// The numbers of a set, which are added up. A third are in the set.
-pub fn bitset_ones(
-    rt: &HostRuntime,
-    a: &mut Allocator<MemoryChunks>,
-    calls: u64,
-) -> Result<Timed, Failed> {
+pub fn bitset_ones(rt: &HostRuntime, a: &mut Heap, calls: u64) -> Result<Timed, Failed> {
     let set = thirds(a, calls)?;
     let clock = Clock::start(rt);
     let mut number: u64 = 0;
@@ -137,7 +120,7 @@ pub fn bitset_ones(
 }
 
 // Joins a set with another, `times` times.
-fn joined(a: &mut Allocator<MemoryChunks>, set: BitSet, other: BitSet, times: u64)
+fn joined(a: &mut Heap, set: BitSet, other: BitSet, times: u64)
     requires set { IsSetIn a.old.memory set }
     requires other { IsSetIn a.old.memory other }
     requires apart { AreBlocksApart other.words.block set.words.block }
@@ -151,11 +134,7 @@ fn joined(a: &mut Allocator<MemoryChunks>, set: BitSet, other: BitSet, times: u6
 }
 
 /// Sets of 4,096 bits that are joined. A call is one bit.
-pub fn bitset_union(
-    rt: &HostRuntime,
-    a: &mut Allocator<MemoryChunks>,
-    calls: u64,
-) -> Result<Timed, Failed> {
+pub fn bitset_union(rt: &HostRuntime, a: &mut Heap, calls: u64) -> Result<Timed, Failed> {
     frame_law::<BitSet>();
     let other = thirds(a, JOINED)?;
     let set = BitSet::new_in(JOINED, a)?;

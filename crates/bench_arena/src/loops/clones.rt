@@ -1,15 +1,14 @@
 // Loops over copies to another arena.
 use super::maps::filled;
 use super::vec::{numbers, sizes};
-use super::{Clock, Failed, Timed, count};
-use arena_chunks::{Allocator, MemoryChunks};
+use super::{Clock, Failed, Heap, Timed, count};
 use arena_clone::CloneIn;
 
 /// A vector of numbers that is copied. A call is one number.
 pub fn vec_clone(
     rt: &HostRuntime,
-    from: &mut Allocator<MemoryChunks>,
-    to: &mut Allocator<MemoryChunks>,
+    from: &mut Heap,
+    to: &mut Heap,
     calls: u64,
 ) -> Result<Timed, Failed> {
     let vec = numbers(from, calls)?;
@@ -21,8 +20,8 @@ pub fn vec_clone(
 /// A map of numbers that is copied. A call is one pair.
 pub fn map_clone(
     rt: &HostRuntime,
-    from: &mut Allocator<MemoryChunks>,
-    to: &mut Allocator<MemoryChunks>,
+    from: &mut Heap,
+    to: &mut Heap,
     calls: u64,
 ) -> Result<Timed, Failed> {
     let n = count(calls)?;

@@ -1,7 +1,6 @@
 // Loops over values.
 use super::batches::BATCH;
-use super::{Clock, Failed, Timed, new_allocator};
-use arena_chunks::{Allocator, MemoryChunks};
+use super::{Clock, Failed, Heap, Timed, new_allocator};
 use arena_items::{ArenaItems, Box};
 
 // The number of numbers that are copied at once.
@@ -19,7 +18,7 @@ impl Values {
     // Places values, and adds up what is read from them.
     fn round(
         self,
-        a: &mut Allocator<MemoryChunks>,
+        a: &mut Heap,
         source: &[u32; COPIED as usize],
         values: u64,
     ) -> Result<u64, Failed> {
@@ -32,12 +31,7 @@ impl Values {
         Ok(number)
     }
 
-    fn time(
-        self,
-        rt: &HostRuntime,
-        a: &mut Allocator<MemoryChunks>,
-        calls: u64,
-    ) -> Result<Timed, Failed> {
+    fn time(self, rt: &HostRuntime, a: &mut Heap, calls: u64) -> Result<Timed, Failed> {
         let mut source = [0; COPIED as usize];
         for i in 0..COPIED {
             source[i as usize] = i as u32;
@@ -52,7 +46,7 @@ impl Values {
     }
 }
 
-fn boxes(a: &mut Allocator<MemoryChunks>, values: u64) -> Result<u64, Failed> {
+fn boxes(a: &mut Heap, values: u64) -> Result<u64, Failed> {
     let mut number: u64 = 0;
     for i in 0..values {
         let boxed = Box::new_in(i, a)?;
@@ -61,11 +55,7 @@ fn boxes(a: &mut Allocator<MemoryChunks>, values: u64) -> Result<u64, Failed> {
     Ok(number)
 }
 
-fn slices(
-    a: &mut Allocator<MemoryChunks>,
-    source: &[u32; COPIED as usize],
-    copies: u64,
-) -> Result<u64, Failed> {
+fn slices(a: &mut Heap, source: &[u32; COPIED as usize], copies: u64) -> Result<u64, Failed> {
     let mut number: u64 = 0;
     for i in 0..copies {
         let slice = a.alloc_slice_copy(source)?;
@@ -74,7 +64,7 @@ fn slices(
     Ok(number)
 }
 
-fn texts(a: &mut Allocator<MemoryChunks>, values: u64) -> Result<u64, Failed> {
+fn texts(a: &mut Heap, values: u64) -> Result<u64, Failed> {
     let mut number: u64 = 0;
     for _ in 0..values {
         let text = a.alloc_str("identifier")?;
@@ -84,33 +74,21 @@ fn texts(a: &mut Allocator<MemoryChunks>, values: u64) -> Result<u64, Failed> {
 }
 
 /// A boxed number, and a read of it.
-pub fn box_new(
-    rt: &HostRuntime,
-    a: &mut Allocator<MemoryChunks>,
-    calls: u64,
-) -> Result<Timed, Failed> {
+pub fn box_new(rt: &HostRuntime, a: &mut Heap, calls: u64) -> Result<Timed, Failed> {
     Values::Boxes.time(rt, a, calls)
 }
 
 /// Numbers that are copied 1,024 at a time. A call is one number.
-pub fn slice_copy(
-    rt: &HostRuntime,
-    a: &mut Allocator<MemoryChunks>,
-    calls: u64,
-) -> Result<Timed, Failed> {
+pub fn slice_copy(rt: &HostRuntime, a: &mut Heap, calls: u64) -> Result<Timed, Failed> {
     Values::Slices.time(rt, a, calls)
 }
 
 /// Texts of ten bytes.
-pub fn str_copy(
-    rt: &HostRuntime,
-    a: &mut Allocator<MemoryChunks>,
-    calls: u64,
-) -> Result<Timed, Failed> {
+pub fn str_copy(rt: &HostRuntime, a: &mut Heap, calls: u64) -> Result<Timed, Failed> {
     Values::Texts.time(rt, a, calls)
 }
 
-fn fixed(rt: &HostRuntime, a: &mut Allocator<MemoryChunks>, calls: u64) -> Result<Timed, Failed> {
+fn fixed(rt: &HostRuntime, a: &mut Heap, calls: u64) -> Result<Timed, Failed> {
     let clock = Clock::start(rt);
     for i in 0..calls {
         a.alloc(i)?;

@@ -4,8 +4,7 @@ ghost use Rattle.arena_hash.specs.Contents.{kind};
 ghost use Rattle.arena_hash.specs.Maps.{IsMapIn};
 
 use super::batches::batches;
-use super::{Clock, Failed, Timed, count, new_allocator};
-use arena_chunks::{Allocator, MemoryChunks};
+use super::{Clock, Failed, Heap, Timed, count, new_allocator};
 use arena_hash::{ArenaKey, FxHasher, HashMap, KeyHasher};
 use arena_items::Item;
 
@@ -19,7 +18,7 @@ pub(super) fn key(i: u32) -> u32 {
 }
 
 // Returns a map of n keys to their numbers.
-pub(super) fn filled(a: &mut Allocator<MemoryChunks>, n: u32) -> Result<HashMap<u32, u32>, Failed>
+pub(super) fn filled(a: &mut Heap, n: u32) -> Result<HashMap<u32, u32>, Failed>
     ensures { IfOk result (IsMapIn (kind ⟦<u32 as Item>⟧ ⟦<u32 as ArenaKey>⟧.key ⟦<u32 as Item>⟧
         ⟦<FxHasher as KeyHasher>⟧.hash_of) a.new.memory) }
 {
@@ -31,18 +30,14 @@ pub(super) fn filled(a: &mut Allocator<MemoryChunks>, n: u32) -> Result<HashMap<
 }
 
 /// Keys that are inserted into a map that grows.
-pub fn map_insert(
-    rt: &HostRuntime,
-    a: &mut Allocator<MemoryChunks>,
-    calls: u64,
-) -> Result<Timed, Failed> {
+pub fn map_insert(rt: &HostRuntime, a: &mut Heap, calls: u64) -> Result<Timed, Failed> {
     let n = count(calls)?;
     let clock = Clock::start(rt);
     let map = filled(a, n)?;
     clock.stop(rt, map.len() as u64)
 }
 
-fn got(rt: &HostRuntime, a: &mut Allocator<MemoryChunks>, calls: u64) -> Result<Timed, Failed> {
+fn got(rt: &HostRuntime, a: &mut Heap, calls: u64) -> Result<Timed, Failed> {
     let n = count(calls)?;
     let map = filled(a, n)?;
     let clock = Clock::start(rt);
@@ -61,7 +56,7 @@ pub fn map_get(rt: &HostRuntime, calls: u64) -> Result<Timed, Failed> {
     got(rt, &mut a, calls)
 }
 
-fn removed(rt: &HostRuntime, a: &mut Allocator<MemoryChunks>, calls: u64) -> Result<Timed, Failed> {
+fn removed(rt: &HostRuntime, a: &mut Heap, calls: u64) -> Result<Timed, Failed> {
     let n = count(calls)?;
     let mut map = filled(a, n)?;
     let clock = Clock::start(rt);
@@ -81,7 +76,7 @@ pub fn map_remove(rt: &HostRuntime, calls: u64) -> Result<Timed, Failed> {
 }
 
 // Inserts keys into new maps of eight, and adds up the maps' lengths.
-fn small(a: &mut Allocator<MemoryChunks>, keys: u64) -> Result<u64, Failed> {
+fn small(a: &mut Heap, keys: u64) -> Result<u64, Failed> {
     let mut number: u64 = 0;
     for i in 0..count(keys / FEW as u64)? {
         let mut map: HashMap<u32, u32> = HashMap::new_in();
@@ -94,20 +89,12 @@ fn small(a: &mut Allocator<MemoryChunks>, keys: u64) -> Result<u64, Failed> {
 }
 
 /// Keys that are inserted into new maps of eight.
-pub fn map_small(
-    rt: &HostRuntime,
-    a: &mut Allocator<MemoryChunks>,
-    calls: u64,
-) -> Result<Timed, Failed> {
+pub fn map_small(rt: &HostRuntime, a: &mut Heap, calls: u64) -> Result<Timed, Failed> {
     batches(rt, a, calls, small)
 }
 
 /// The pairs of a map, which are added up.
-pub fn map_iter(
-    rt: &HostRuntime,
-    a: &mut Allocator<MemoryChunks>,
-    calls: u64,
-) -> Result<Timed, Failed> {
+pub fn map_iter(rt: &HostRuntime, a: &mut Heap, calls: u64) -> Result<Timed, Failed> {
     let n = count(calls)?;
     let map = filled(a, n)?;
     let clock = Clock::start(rt);
@@ -121,8 +108,8 @@ pub fn map_iter(
 /// The pairs of a map, which are inserted into another one in the order of an iterator.
 pub fn map_walked(
     rt: &HostRuntime,
-    a: &mut Allocator<MemoryChunks>,
-    b: &mut Allocator<MemoryChunks>,
+    a: &mut Heap,
+    b: &mut Heap,
     calls: u64,
 ) -> Result<Timed, Failed> {
     let n = count(calls)?;

@@ -4,8 +4,7 @@ ghost use Rattle.arena_symbols.specs.Names.{IsInternerIn};
 ghost use Rattle.arena_symbols.specs.Tables.{entry_item, IsTableIn};
 
 use super::maps::key;
-use super::{Clock, Failed, Timed, count, new_allocator};
-use arena_chunks::{Allocator, MemoryChunks};
+use super::{Clock, Failed, Heap, Timed, count, new_allocator};
 use arena_symbols::{Scopes, Symbols};
 use std::alloc::{self, Global};
 
@@ -27,11 +26,7 @@ fn some_texts(alloc: Global, calls: u64) -> Result<Vec<String>, Failed> {
 }
 
 // Interns each text, in an interner that may have it already, and adds up the numbers.
-fn interned(
-    a: &mut Allocator<MemoryChunks>,
-    symbols: &mut Symbols,
-    texts: &[String],
-) -> Result<u64, Failed>
+fn interned(a: &mut Heap, symbols: &mut Symbols, texts: &[String]) -> Result<u64, Failed>
     requires { IsInternerIn a.old.memory symbols.old }
     ensures { IfOk result (λ _. IsInternerIn a.new.memory symbols.new) }
 {
@@ -46,11 +41,7 @@ fn interned(
 }
 
 /// Texts that are interned for the first time.
-pub fn intern_new(
-    rt: &HostRuntime,
-    a: &mut Allocator<MemoryChunks>,
-    calls: u64,
-) -> Result<Timed, Failed> {
+pub fn intern_new(rt: &HostRuntime, a: &mut Heap, calls: u64) -> Result<Timed, Failed> {
     let texts = some_texts(rt.alloc(), calls)?;
     let mut symbols = Symbols::new_in();
     let clock = Clock::start(rt);
@@ -59,11 +50,7 @@ pub fn intern_new(
 }
 
 /// Texts that are interned already.
-pub fn intern_known(
-    rt: &HostRuntime,
-    a: &mut Allocator<MemoryChunks>,
-    calls: u64,
-) -> Result<Timed, Failed> {
+pub fn intern_known(rt: &HostRuntime, a: &mut Heap, calls: u64) -> Result<Timed, Failed> {
     let texts = some_texts(rt.alloc(), calls)?;
     let mut symbols = Symbols::new_in();
     interned(a, &mut symbols, &texts)?;
@@ -73,7 +60,7 @@ pub fn intern_known(
 }
 
 // Returns a scope in which `n` ids are defined.
-fn defined(a: &mut Allocator<MemoryChunks>, n: u32) -> Result<Scopes, Failed>
+fn defined(a: &mut Heap, n: u32) -> Result<Scopes, Failed>
     ensures { IfOk result (IsTableIn entry_item a.new.memory) }
 {
     let mut scopes = Scopes::new_in();
@@ -84,22 +71,14 @@ fn defined(a: &mut Allocator<MemoryChunks>, n: u32) -> Result<Scopes, Failed>
 }
 
 /// Ids that are defined in one scope.
-pub fn scope_define(
-    rt: &HostRuntime,
-    a: &mut Allocator<MemoryChunks>,
-    calls: u64,
-) -> Result<Timed, Failed> {
+pub fn scope_define(rt: &HostRuntime, a: &mut Heap, calls: u64) -> Result<Timed, Failed> {
     let n = count(calls)?;
     let clock = Clock::start(rt);
     let scopes = defined(a, n)?;
     clock.stop(rt, scopes.pairs.len() as u64)
 }
 
-fn looked_up(
-    rt: &HostRuntime,
-    a: &mut Allocator<MemoryChunks>,
-    calls: u64,
-) -> Result<Timed, Failed> {
+fn looked_up(rt: &HostRuntime, a: &mut Heap, calls: u64) -> Result<Timed, Failed> {
     let n = count(calls)?;
     let scopes = defined(a, n)?;
     let clock = Clock::start(rt);
@@ -120,7 +99,7 @@ pub fn scope_lookup(rt: &HostRuntime, calls: u64) -> Result<Timed, Failed> {
 
 // Enters and leaves scopes, in each of which some ids shadow those of the outer scope. Returns the number of their
 // pairs.
-fn nested(a: &mut Allocator<MemoryChunks>, scopes: &mut Scopes, n: u32) -> Result<u64, Failed>
+fn nested(a: &mut Heap, scopes: &mut Scopes, n: u32) -> Result<u64, Failed>
     requires { IsTableIn entry_item a.old.memory scopes.old }
 {
     let mut number: u64 = 0;
@@ -135,7 +114,7 @@ fn nested(a: &mut Allocator<MemoryChunks>, scopes: &mut Scopes, n: u32) -> Resul
     Ok(number)
 }
 
-fn entered(rt: &HostRuntime, a: &mut Allocator<MemoryChunks>, calls: u64) -> Result<Timed, Failed> {
+fn entered(rt: &HostRuntime, a: &mut Heap, calls: u64) -> Result<Timed, Failed> {
     let n = count(calls)?;
     let mut scopes = defined(a, FEW)?;
     let clock = Clock::start(rt);

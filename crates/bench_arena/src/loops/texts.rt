@@ -1,7 +1,6 @@
 // Loops over texts.
 use super::batches::batches;
-use super::{Clock, Failed, Timed, new_allocator};
-use arena_chunks::{Allocator, MemoryChunks};
+use super::{Clock, Failed, Heap, Timed, new_allocator};
 use arena_text::StringBuilder;
 
 // The text that is appended as a whole.
@@ -14,7 +13,7 @@ fn sizes(text: StringBuilder) -> u64 {
     text.len().wrapping_add(text.capacity())
 }
 
-fn pieces(rt: &HostRuntime, a: &mut Allocator<MemoryChunks>, calls: u64) -> Result<Timed, Failed> {
+fn pieces(rt: &HostRuntime, a: &mut Heap, calls: u64) -> Result<Timed, Failed> {
     let clock = Clock::start(rt);
     let mut text = StringBuilder::new_in();
     for _ in 0..calls {
@@ -29,7 +28,7 @@ pub fn string_push_str(rt: &HostRuntime, calls: u64) -> Result<Timed, Failed> {
     pieces(rt, &mut a, calls)
 }
 
-fn letters(rt: &HostRuntime, a: &mut Allocator<MemoryChunks>, calls: u64) -> Result<Timed, Failed> {
+fn letters(rt: &HostRuntime, a: &mut Heap, calls: u64) -> Result<Timed, Failed> {
     let clock = Clock::start(rt);
     let mut text = StringBuilder::new_in();
     for i in 0..calls {
@@ -46,7 +45,7 @@ pub fn string_push_byte(rt: &HostRuntime, calls: u64) -> Result<Timed, Failed> {
 }
 
 // Inserts bytes at the front of texts, 64 in each, and adds up the lengths.
-fn in_front(a: &mut Allocator<MemoryChunks>, bytes: u64) -> Result<u64, Failed> {
+fn in_front(a: &mut Heap, bytes: u64) -> Result<u64, Failed> {
     let mut number: u64 = 0;
     for _ in 0..bytes / FEW {
         let mut text = StringBuilder::with_capacity_in(FEW, a)?;
@@ -59,10 +58,6 @@ fn in_front(a: &mut Allocator<MemoryChunks>, bytes: u64) -> Result<u64, Failed> 
 }
 
 /// Bytes that are inserted before up to 63 others.
-pub fn string_push_start(
-    rt: &HostRuntime,
-    a: &mut Allocator<MemoryChunks>,
-    calls: u64,
-) -> Result<Timed, Failed> {
+pub fn string_push_start(rt: &HostRuntime, a: &mut Heap, calls: u64) -> Result<Timed, Failed> {
     batches(rt, a, calls, in_front)
 }

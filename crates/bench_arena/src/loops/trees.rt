@@ -1,8 +1,7 @@
 // A loop over trees.
 ghost use Rattle.std.specs.Prelude.{◌^◌, ◌<◌, ◌≤◌, length};
 
-use super::{Clock, Failed, Timed};
-use arena_chunks::{Allocator, MemoryChunks};
+use super::{Clock, Failed, Heap, Timed};
 use arena_tree::Tree;
 use std::alloc::{self, Global};
 
@@ -110,7 +109,7 @@ fn put_source(alloc: Global, text: &mut Vec<u8>) -> Result<(), alloc::AllocError
 }
 
 // Parses the text `times` times, each time after a reset, and adds up its bytes and its statements.
-fn parsed(a: &mut Allocator<MemoryChunks>, src: &[u8], times: u64) -> Result<u64, Failed>
+fn parsed(a: &mut Heap, src: &[u8], times: u64) -> Result<u64, Failed>
     requires { length src.now ≤ 2 ^ 24 }
 {
     let mut number: u64 = 0;
@@ -125,12 +124,7 @@ fn parsed(a: &mut Allocator<MemoryChunks>, src: &[u8], times: u64) -> Result<u64
 }
 
 // Parses the text until about `calls` bytes are parsed.
-fn parsed_often(
-    rt: &HostRuntime,
-    a: &mut Allocator<MemoryChunks>,
-    src: &[u8],
-    calls: u64,
-) -> Result<Timed, Failed> {
+fn parsed_often(rt: &HostRuntime, a: &mut Heap, src: &[u8], calls: u64) -> Result<Timed, Failed> {
     let bytes = src.len() as u64;
     if bytes == 0 || bytes > 1 << 24 {
         return Err(Failed::NoPlace);
@@ -142,11 +136,7 @@ fn parsed_often(
 }
 
 /// A text that is parsed into a tree again and again, each time after a reset. A call is a byte of the text.
-pub fn tree_parse(
-    rt: &HostRuntime,
-    a: &mut Allocator<MemoryChunks>,
-    calls: u64,
-) -> Result<Timed, Failed> {
+pub fn tree_parse(rt: &HostRuntime, a: &mut Heap, calls: u64) -> Result<Timed, Failed> {
     let mut text = Vec::new(rt.alloc());
     match put_source(rt.alloc(), &mut text) {
         Ok(()) => parsed_often(rt, a, text.as_slice(), calls),

@@ -3,8 +3,7 @@ ghost use Rattle.std.specs.Prelude.{IfOk};
 ghost use Rattle.arena_vec.specs.Vecs.{IsVecIn};
 
 use super::batches::batches;
-use super::{Clock, Failed, Timed, count};
-use arena_chunks::{Allocator, MemoryChunks};
+use super::{Clock, Failed, Heap, Timed, count};
 use arena_items::Item;
 use arena_vec::Vec;
 
@@ -21,7 +20,7 @@ pub(super) fn sizes(vec: Vec<u32>) -> u64 {
 }
 
 /// Returns a vector of `calls` numbers.
-pub(super) fn numbers(a: &mut Allocator<MemoryChunks>, calls: u64) -> Result<Vec<u32>, Failed>
+pub(super) fn numbers(a: &mut Heap, calls: u64) -> Result<Vec<u32>, Failed>
     ensures { IfOk result (IsVecIn ⟦<u32 as Item>⟧ a.new.memory) }
 {
     let n = count(calls)?;
@@ -30,7 +29,7 @@ pub(super) fn numbers(a: &mut Allocator<MemoryChunks>, calls: u64) -> Result<Vec
 }
 
 // Appends the numbers below n to the vector.
-fn pushed(a: &mut Allocator<MemoryChunks>, vec: Vec<u32>, n: u32) -> Result<Vec<u32>, Failed>
+fn pushed(a: &mut Heap, vec: Vec<u32>, n: u32) -> Result<Vec<u32>, Failed>
     requires { IsVecIn ⟦<u32 as Item>⟧ a.old.memory vec }
 {
     let mut vec = vec;
@@ -41,7 +40,7 @@ fn pushed(a: &mut Allocator<MemoryChunks>, vec: Vec<u32>, n: u32) -> Result<Vec<
 }
 
 // Returns the number at an index, or 0 past the end.
-fn number_at(a: &Allocator<MemoryChunks>, vec: Vec<u32>, i: u32) -> u64
+fn number_at(a: &Heap, vec: Vec<u32>, i: u32) -> u64
     requires { IsVecIn ⟦<u32 as Item>⟧ a.now.memory vec }
 {
     if i < vec.len() {
@@ -52,11 +51,7 @@ fn number_at(a: &Allocator<MemoryChunks>, vec: Vec<u32>, i: u32) -> u64
 }
 
 /// Numbers that are appended.
-pub fn vec_push(
-    rt: &HostRuntime,
-    a: &mut Allocator<MemoryChunks>,
-    calls: u64,
-) -> Result<Timed, Failed> {
+pub fn vec_push(rt: &HostRuntime, a: &mut Heap, calls: u64) -> Result<Timed, Failed> {
     let n = count(calls)?;
     let clock = Clock::start(rt);
     let vec = pushed(a, Vec::new_in(), n)?;
@@ -64,11 +59,7 @@ pub fn vec_push(
 }
 
 /// Numbers that are appended to a vector with room for them.
-pub fn vec_push_reserved(
-    rt: &HostRuntime,
-    a: &mut Allocator<MemoryChunks>,
-    calls: u64,
-) -> Result<Timed, Failed> {
+pub fn vec_push_reserved(rt: &HostRuntime, a: &mut Heap, calls: u64) -> Result<Timed, Failed> {
     let n = count(calls)?;
     let clock = Clock::start(rt);
     let vec = Vec::with_capacity_in(calls, a)?;
@@ -77,11 +68,7 @@ pub fn vec_push_reserved(
 }
 
 /// Numbers that are read by their index.
-pub fn vec_sum(
-    rt: &HostRuntime,
-    a: &mut Allocator<MemoryChunks>,
-    calls: u64,
-) -> Result<Timed, Failed> {
+pub fn vec_sum(rt: &HostRuntime, a: &mut Heap, calls: u64) -> Result<Timed, Failed> {
     let vec = numbers(a, calls)?;
     let clock = Clock::start(rt);
     let mut number: u64 = 0;
@@ -92,7 +79,7 @@ pub fn vec_sum(
 }
 
 // Appends numbers to new vectors of four, and adds up the last ones.
-fn small(a: &mut Allocator<MemoryChunks>, values: u64) -> Result<u64, Failed> {
+fn small(a: &mut Heap, values: u64) -> Result<u64, Failed> {
     let mut number: u64 = 0;
     for i in 0..count(values / FEW)? {
         let mut vec = Vec::new_in();
@@ -105,20 +92,12 @@ fn small(a: &mut Allocator<MemoryChunks>, values: u64) -> Result<u64, Failed> {
 }
 
 /// Numbers that are appended to new vectors of four.
-pub fn vec_small(
-    rt: &HostRuntime,
-    a: &mut Allocator<MemoryChunks>,
-    calls: u64,
-) -> Result<Timed, Failed> {
+pub fn vec_small(rt: &HostRuntime, a: &mut Heap, calls: u64) -> Result<Timed, Failed> {
     batches(rt, a, calls, small)
 }
 
 // Appends numbers to a vector, several at once, `times` times.
-fn extended(
-    a: &mut Allocator<MemoryChunks>,
-    source: &[u32; SLICE as usize],
-    times: u64,
-) -> Result<Vec<u32>, Failed> {
+fn extended(a: &mut Heap, source: &[u32; SLICE as usize], times: u64) -> Result<Vec<u32>, Failed> {
     let mut vec = Vec::new_in();
     for _ in 0..times {
         vec.extend_from_slice(a, source)?;
@@ -127,11 +106,7 @@ fn extended(
 }
 
 /// Numbers that are appended 256 at a time. A call is one number.
-pub fn vec_extend(
-    rt: &HostRuntime,
-    a: &mut Allocator<MemoryChunks>,
-    calls: u64,
-) -> Result<Timed, Failed> {
+pub fn vec_extend(rt: &HostRuntime, a: &mut Heap, calls: u64) -> Result<Timed, Failed> {
     let mut source = [0; SLICE as usize];
     for i in 0..SLICE {
         source[i as usize] = i as u32;
@@ -142,7 +117,7 @@ pub fn vec_extend(
 }
 
 // Inserts numbers at the front of vectors, 64 in each, and adds up the first ones.
-fn in_front(a: &mut Allocator<MemoryChunks>, values: u64) -> Result<u64, Failed> {
+fn in_front(a: &mut Heap, values: u64) -> Result<u64, Failed> {
     let mut number: u64 = 0;
     for i in 0..count(values / INSERTED)? {
         let mut vec = Vec::with_capacity_in(INSERTED, a)?;
@@ -155,20 +130,12 @@ fn in_front(a: &mut Allocator<MemoryChunks>, values: u64) -> Result<u64, Failed>
 }
 
 /// Numbers that are inserted before up to 63 others.
-pub fn vec_insert_front(
-    rt: &HostRuntime,
-    a: &mut Allocator<MemoryChunks>,
-    calls: u64,
-) -> Result<Timed, Failed> {
+pub fn vec_insert_front(rt: &HostRuntime, a: &mut Heap, calls: u64) -> Result<Timed, Failed> {
     batches(rt, a, calls, in_front)
 }
 
 /// Numbers that a predicate keeps or removes. It keeps two in three.
-pub fn vec_retain(
-    rt: &HostRuntime,
-    a: &mut Allocator<MemoryChunks>,
-    calls: u64,
-) -> Result<Timed, Failed> {
+pub fn vec_retain(rt: &HostRuntime, a: &mut Heap, calls: u64) -> Result<Timed, Failed> {
     let mut vec = numbers(a, calls)?;
     let clock = Clock::start(rt);
     vec.retain(a, |x| *x % 3 != 0);
@@ -176,11 +143,7 @@ pub fn vec_retain(
 }
 
 /// Numbers that are iterated in order.
-pub fn vec_iter(
-    rt: &HostRuntime,
-    a: &mut Allocator<MemoryChunks>,
-    calls: u64,
-) -> Result<Timed, Failed> {
+pub fn vec_iter(rt: &HostRuntime, a: &mut Heap, calls: u64) -> Result<Timed, Failed> {
     let vec = numbers(a, calls)?;
     let clock = Clock::start(rt);
     let mut number: u64 = 0;

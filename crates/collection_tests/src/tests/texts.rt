@@ -28,6 +28,8 @@ enum Step {
     Times(u8, u64),
     Char(char),
     Room(u64),
+    // An index, and the byte there.
+    Set(u64, u8),
 }
 
 // Takes a step.
@@ -45,6 +47,11 @@ fn take<C: ChunkSource>(
         Step::Start(byte) => text.push_byte_start_unchecked(a, *byte),
         Step::Char(c) => text.push(a, *c),
         Step::Room(n) => text.reserve(a, *n),
+        Step::Set(i, byte) => {
+            assert!(rt; *i < text.len());
+            text.set_byte(a, *i, *byte);
+            Ok(())
+        }
         Step::Ascii(byte) => {
             assert!(rt; *byte < 128);
             text.push_ascii_byte(a, *byte)
@@ -138,6 +145,8 @@ fn made(rt: HostRuntime) {
     for (how, bytes, cap) in MADE {
         let text = text_of(&mut a, how).expect(&rt, "a text");
         has(&rt, &a, text, bytes.as_bytes(), *cap);
+        assert!(rt; text.is_held(&a));
+        assert!(rt; text.eq_str(&a, bytes) && !text.eq_str(&a, "other"));
     }
 }
 
@@ -157,6 +166,7 @@ const BUILT: &[&[Row]] = &[
     &[
         (Step::Text("hello"), "hello", 8),
         (Step::Times(b'!', 3), "hello!!!", 8),
+        (Step::Set(0, b'j'), "jello!!!", 8),
     ],
     &[
         (Step::Room(3), "", 8),

@@ -4,7 +4,7 @@ mod generated;
 mod refused;
 mod replies;
 
-use super::{Asked, holds, streams, words};
+use super::{Asked, CALLS, holds, streams, words};
 use arena_calls::{Input, Output, Status, arena_calls};
 use arena_chunks::{Arena, Bytes, ChunkSource, MemoryChunks};
 use std::alloc::Global;
@@ -61,13 +61,3 @@ fn ends_so(
     holds(rt, ended.is(wanted), row);
     Ok(())
 }
-
-// The word `calls`, without failing reads or writes.
-const CALLS: Asked<'static> = Asked {
-    words: &["calls"],
-    text: b"",
-    given: 4096,
-    reads: &[],
-    taken: 4096,
-    writes: &[],
-};

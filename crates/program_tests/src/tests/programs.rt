@@ -108,6 +108,15 @@ const ROWS: &[Row] = &[
         "line 3 is not understood\n",
     ),
     (&["arena_run", "calls"], "used\n", &[1], 5, "", ""),
+    // The chunk has 2,000,003,008 bytes, which exceed the budget.
+    (
+        &["arena_run", "calls"],
+        "alloc 0 2000000000 1 0\n",
+        &[],
+        0,
+        "allocerr refused 1\n",
+        "",
+    ),
     (&["arena_run", "call"], "used\n", &[2], 1, "", "usage: "),
     (&["arena_run", "scripts", "1"], "script\n", &[1], 5, "", ""),
 ];

@@ -1,5 +1,5 @@
 // Tests of scripts and sources through the words, over streams in memory: the whole input and the whole output.
-use super::{Asked, holds, streams, words};
+use super::{Asked, CALLS, holds, streams, words};
 use arena_calls::{MemoryInput, MemoryOutput};
 use arena_chunks::{Arena, MemoryChunks};
 use arena_pool::MemoryMaker;
@@ -18,10 +18,10 @@ const BUDGET: u64 = 67_108_864;
 // The words, the input and the output.
 type Row = (&'static [&'static str], &'static str, &'static str);
 
-pub(super) const LIST_AND_TEXT: &str = "\
+const LIST_AND_TEXT: &str = "\
 script\nlist 1\npush 1 5\npush 1 6\nat 1 1\nat 1 2\nlist 1\ntext 2\nbyte 2 104\nbyte 2 200\nshow 2\npop 2\n";
 
-pub(super) const LIST_AND_TEXT_TOLD: &str = "\
+const LIST_AND_TEXT_TOLD: &str = "\
 script 0\ndone\ndone\ndone\nnumber 6\nout of range\nname taken\ndone\ndone\nnot ascii\nbytes 68\nwrong kind\nended done\n";
 
 // The same script twice.
@@ -32,15 +32,6 @@ script\nlist 1\npush 1 5\npush 1 6\nat 1 1\nat 1 2\nlist 1\ntext 2\nbyte 2 104\n
 const TWO_TOLD: &str = "\
 script 0\ndone\ndone\ndone\nnumber 6\nout of range\nname taken\ndone\ndone\nnot ascii\nbytes 68\nwrong kind\nended done\n\
 script 1\ndone\ndone\ndone\nnumber 6\nout of range\nname taken\ndone\ndone\nnot ascii\nbytes 68\nwrong kind\nended done\n";
-
-pub(super) const SETS_AND_MAPS: &str = "\
-script\nbits 0 65\nset 0 0\nset 0 64\nones 0\nshow 0\nset 0 128\nbits 1 1\nunion 1 0\nones 1\nhas 1 64\nmap 2\nbind 2 9 1\n\
-bind 2 9 4\nfind 2 8\nshow 2\ncopy 2 3\nunbind 2 9\nshow 3\n";
-
-pub(super) const SETS_AND_MAPS_TOLD: &str = "\
-script 0\ndone\ndone\ndone\nnumbers 0 64\n\
-printed 00000001_00000000_00000000_00000000_00000000_00000000_00000000_00000000_00000001\nout of range\ndone\ndone\n\
-numbers 0\nfalse\ndone\nnothing\nnumber 1\nnothing\nnumbers 9 4\ndone\nnumber 4\nnumbers 9 4\nended done\n";
 
 const SOURCES: &str = "let a = 1;\n{\nlet a = b;\n}\n%%\na + ;\n";
 
@@ -64,7 +55,6 @@ const ROWS: &[Row] = &[
         LIST_AND_TEXT,
         LIST_AND_TEXT_TOLD,
     ),
-    (&["scripts", "1"], SETS_AND_MAPS, SETS_AND_MAPS_TOLD),
     (&["scripts", "1"], TWO, TWO_TOLD),
     (&["scripts", "2"], TWO, TWO_TOLD),
     (&["scripts", "64"], TWO, TWO_TOLD),
@@ -116,9 +106,8 @@ fn tells<R: Threads + Wait + Sync + Abort>(
         words: list,
         text: text.as_bytes(),
         given: 7,
-        reads: &[],
         taken: 5,
-        writes: &[],
+        ..CALLS
     };
     let (mut input, mut output) = streams(alloc, &asked)?;
     let words = words(alloc, list)?;

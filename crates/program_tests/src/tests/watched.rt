@@ -1,6 +1,6 @@
 // Tests of the words as seen by makers of sources, by sources and by jobs: the number of arenas, the number of
 // workers that are at work at the same time, and the arenas that are lent again.
-use super::{Asked, streams, words};
+use super::{Asked, CALLS, streams, words};
 use arena_calls::{Input, Output, Status};
 use arena_chunks::{Allocator, Arena, ChunkSource, MemoryChunks};
 use arena_pool::ChunkMaker;
@@ -176,10 +176,7 @@ fn is_watched<R: Threads + Wait + Sync + Abort>(
     let asked = Asked {
         words: asks,
         text: text.as_bytes(),
-        given: 4096,
-        reads: &[],
-        taken: 4096,
-        writes: &[],
+        ..CALLS
     };
     let words = words(alloc, asks)?;
     let (mut input, mut output) = streams(alloc, &asked)?;

@@ -1,4 +1,4 @@
-// Tests of comparisons and debug texts of vectors, by the Rust crate's tests.
+// Tests of comparisons, hashes and debug texts of vectors, by the Rust crate's tests.
 use super::vectors::{known, vec_of};
 use super::{ample, same};
 use arena_chunks::{Allocator, ChunkSource};
@@ -7,6 +7,7 @@ use arena_vec::Vec;
 use std::alloc::Global;
 use std::cmp::Ordering;
 use std::fmt::Debug;
+use std::hash::{DefaultHasher, Hash, Hasher};
 use std::process::Abort;
 
 // Checks whether a vector is equal to another, with the values of the list, and how it compares with it.
@@ -23,6 +24,20 @@ fn compares<C: ChunkSource>(
     same(rt, one.eq(a, &other), order.is_eq());
     same(rt, one.eq_slice(a, list), order.is_eq());
     same(rt, one.cmp(a, &other), order);
+    same(rt, one.partial_cmp(a, &other), Some(order));
+    same(
+        rt,
+        hash_of(rt, a, one) == hash_of(rt, a, other),
+        order.is_eq(),
+    );
+}
+
+// Returns the hash of a vector by std's hasher, which is that of a slice with the same values.
+fn hash_of<C: ChunkSource>(rt: &impl Abort, a: &Allocator<C>, vec: Vec<u8>) -> u64 {
+    known(rt, a, vec);
+    let mut state = DefaultHasher::new();
+    vec.hash(a, &mut state);
+    state.finish()
 }
 
 const ORDERS: &[(&[u8], Ordering)] = &[
@@ -38,6 +53,9 @@ fn equality_and_order(rt: HostRuntime) {
     for (list, order) in ORDERS {
         let other = vec_of(&rt, &mut a, list);
         compares(&rt, &a, one, other, list, *order);
+        let mut state = DefaultHasher::new();
+        list.hash(&mut state);
+        same(&rt, hash_of(&rt, &a, other), state.finish());
     }
 }
 
@@ -52,5 +70,6 @@ fn says<T: Item + Debug>(rt: &impl Abort, alloc: Global, list: &[T], wanted: &st
 #[test]
 fn texts(rt: HostRuntime) {
     says(&rt, rt.alloc(), &[1u32, 2], "Vec([1, 2])");
+    says(&rt, rt.alloc(), &[1u32, 2, 3], "Vec([1, 2, 3])");
     says(&rt, rt.alloc(), &['x'], "Vec(['x'])");
 }

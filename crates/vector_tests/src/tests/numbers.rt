@@ -1,4 +1,5 @@
 // An iterator of successive numbers, whose size hints may be higher than, lower than or equal to what it yields.
+ghost use Rattle.std.specs.Prelude.{◌+◌};
 ghost use Rattle.std.specs.Iterator.{at_most};
 
 // The size hint of an iterator. The last number is the number of items that it yields.
@@ -90,5 +91,35 @@ impl Iterator for Counting<'_> {
 
     fn size_hint(&self) -> (usize, Option<usize>) {
         self.numbers.size_hint()
+    }
+}
+
+// The numbers 5 and 6. Its hint is always at least 2^64 - 1 items, and its bound is higher.
+#[derive(Drop)]
+pub(super) struct FiveAndSix {
+    left: u32,
+}
+
+impl FiveAndSix {
+    pub(super) fn new() -> FiveAndSix {
+        FiveAndSix { left: 2 }
+    }
+}
+
+impl Iterator for FiveAndSix {
+    type Item = u32;
+
+    ghost remaining = { λ s. at_most (18446744073709551615 + s.left) };
+
+    fn next(&mut self) -> Option<u32> {
+        if self.left == 0 {
+            return None;
+        }
+        self.left -= 1;
+        Some(6u32.wrapping_sub(self.left))
+    }
+
+    fn size_hint(&self) -> (usize, Option<usize>) {
+        (usize::MAX, None)
     }
 }

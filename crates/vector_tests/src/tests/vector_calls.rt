@@ -19,8 +19,8 @@ const IN_FULL_ONES: &[Row<'static, u32>] = &[
     (Call::Reserve(4), Answer::Done, &[], 4),
     (Call::PushMut(1), Answer::Index(0), &[1], 4),
     (Call::PushFastMut(2), Answer::Index(1), &[1, 2], 4),
-    (Call::Push(3), Answer::Done, &[1, 2, 3], 4),
-    (Call::PushFast(4), Answer::Done, &[1, 2, 3, 4], 4),
+    (Call::PushFast(3), Answer::Done, &[1, 2, 3], 4),
+    (Call::Push(4), Answer::Done, &[1, 2, 3, 4], 4),
     (Call::PushMut(5), Answer::Index(4), &[1, 2, 3, 4, 5], 8),
     (Call::Truncate(4), Answer::Done, &[1, 2, 3, 4], 8),
     (Call::ShrinkToFit, Answer::Done, &[1, 2, 3, 4], 4),
@@ -79,6 +79,31 @@ const MANY: &[Row<'static, u32>] = &[
     (Call::Resize(5, 0), Answer::Done, &[1, 2, 3, 4, 0], 8),
 ];
 
+// One list by each call, added to an empty vector.
+const THREE_TIMES: &[Row<'static, u32>] = &[
+    (Call::Extend(NUMBERS), Answer::Done, NUMBERS, 3),
+    (
+        Call::ExtendCopy(NUMBERS),
+        Answer::Done,
+        &[1, 2, 3, 1, 2, 3],
+        6,
+    ),
+    (
+        Call::ExtendSlices(&[NUMBERS]),
+        Answer::Done,
+        &[1, 2, 3, 1, 2, 3, 1, 2, 3],
+        12,
+    ),
+];
+
+// Each call is made on a vector of three values.
+const ROOM_FOR_THREE: &[Row<'static, u32>] = &[
+    (Call::Reserve(3), Answer::Done, NUMBERS, 6),
+    (Call::TryReserve(3), Answer::Done, NUMBERS, 6),
+    (Call::ReserveExact(3), Answer::Done, NUMBERS, 6),
+    (Call::TryReserveExact(3), Answer::Done, NUMBERS, 6),
+];
+
 // Each call is made on a vector of one value.
 const ROOM: &[Row<'static, u32>] = &[
     (Call::Reserve(10), Answer::Done, &[1], 11),
@@ -119,6 +144,7 @@ const ON_NUMBERS: &[(&[u32], &[Row<'static, u32>])] = &[
     (NUMBERS, IN_THE_MIDST),
     (&[1, 2, 3, 4, 5], FEWER),
     (&[1], MANY),
+    (&[], THREE_TIMES),
     (NUMBERS, TOO_MANY),
 ];
 
@@ -129,6 +155,9 @@ fn on_numbers(rt: HostRuntime) {
     }
     for row in ROOM {
         from(&rt, rt.alloc(), &[1], std::slice::from_ref(row));
+    }
+    for row in ROOM_FOR_THREE {
+        from(&rt, rt.alloc(), NUMBERS, std::slice::from_ref(row));
     }
 }
 

@@ -1,10 +1,10 @@
 // Tests of vectors to which an iterator's items are appended. Its own hints determine the room, and no item is taken
 // after the last that is reported.
-use super::numbers::Hints;
-use super::same_at;
+use super::numbers::{FiveAndSix, Hints};
 use super::vector_refusals::{NONE_REFUSED, fixed};
 use super::vectors::{is_list, vec_of};
-use arena_vec::Grown;
+use super::{ample, same, same_at};
+use arena_vec::{Grown, Vec};
 use std::alloc::Global;
 use std::process::Abort;
 
@@ -12,6 +12,7 @@ use std::process::Abort;
 type Row = (&'static [u32], u64, Hints, &'static [u32], u32);
 
 const BEHIND_A_LIST: &[Row] = &[
+    (&[], 0, Hints::Exactly(3), &[1, 2, 3], 3),
     // A full vector makes room for all announced items, or for twice as many values as it has.
     (&[9], 0, Hints::Exactly(4), &[9, 1, 2, 3, 4], 5),
     (&[9, 9, 9], 0, Hints::Exactly(1), &[9, 9, 9, 1], 6),
@@ -54,4 +55,12 @@ fn as_told(rt: HostRuntime) {
     for row in REFUSED {
         takes(&rt, rt.alloc(), 16, row, (NONE_REFUSED, 1));
     }
+}
+
+#[test]
+fn a_hint_that_stays_too_high(rt: HostRuntime) {
+    let mut a = ample(rt.alloc());
+    let vec = Vec::from_iter_in(FiveAndSix::new(), &mut a).expect(&rt, "room");
+    is_list(&rt, &a, vec, &[5, 6]);
+    same(&rt, vec.capacity(), 2);
 }

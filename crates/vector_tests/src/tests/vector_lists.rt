@@ -33,6 +33,7 @@ fn make(a: &mut Allocator<MemoryChunks>, new: &New, taken: &mut u64) -> Grown<Ve
 // How a vector is made, the list, the capacity, and the bytes in use.
 const NEW_VECTORS: &[(New, &[u32], u32, u64)] = &[
     (New::Room(10), &[], 10, 40),
+    (New::Room(3), &[], 3, 12),
     (New::Items(Hints::Exactly(3)), &[1, 2, 3], 3, 12),
     (New::Items(Hints::Exactly(0)), &[], 0, 0),
     (New::Items(Hints::AtMost(10, 3)), &[1, 2, 3], 10, 40),

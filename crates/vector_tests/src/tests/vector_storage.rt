@@ -48,6 +48,9 @@ const CAPACITIES: &[&[(Room, u32)]] = &[
     &[(Room::Reserve(0, 9), 9)],
     &[(Room::Reserve(0, 7), 7), (Room::Reserve(7, 90), 97)],
     &[(Room::Reserve(0, 12), 12), (Room::Reserve(12, 3), 24)],
+    &[(Room::TryReserve(0, 3), 3)],
+    &[(Room::ReserveExact(0, 3), 3)],
+    &[(Room::TryReserveExact(0, 3), 3)],
     &[
         (Room::GrowOne, 1),
         (Room::GrowOne, 2),

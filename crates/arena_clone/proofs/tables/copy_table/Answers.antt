@@ -10,7 +10,7 @@ place_copy-requires-clause-fits g c =
     let place = c.requires.held.0.handle.place in
     let align = table_is_align g.K.Item.SIZE g.V.Item.SIZE g.K.Item.ALIGN g.V.Item.ALIGN g.met.K.Item.layout g.met.V.Item.layout in
     rw place.of_align
-    (readable_layout c.arena.result.now.memory.state c.args.map.now.table.block _ c.min_align.ensures.valid align
+    (readable_layout c.arena.result.now.memory.state c.args.map.now.table.block _ c.known.ensures.valid align
     (rw c.arena.ensures place.readable))
 
 pub returns-in_err-block : goal.returns-in_err-block

@@ -1,5 +1,5 @@
 use Rattle.std.proofs.Common.{sym, refl, append-nil, arith}
-use Rattle.arena_tree.specs.declared.node.Kind.TheVariants as kind
+use Rattle.tree_nodes.specs.declared.node.Kind.TheVariants as kind
 use Rattle.arena_tree.proofs.Layers.{seen}
 use Rattle.arena_lint.proofs.NameLemmas.{name_at, kid_found, kids_found}
 use Rattle.arena_lint.proofs.names.+names.Goals as goal

@@ -1,6 +1,6 @@
 use Rattle.std.proofs.Common.{ap, arith}
 use Rattle.arena_tree.specs.Spending.{error_of}
-use Rattle.arena_tree.specs.declared.node.Kind.TheVariants as kind
+use Rattle.tree_nodes.specs.declared.node.Kind.TheVariants as kind
 use Rattle.arena_tree.proofs.Layers.{line_seen}
 use Rattle.arena_lint.proofs.SpendingLemmas.{err_takes, takes_exhausted, takes_then, takes_more}
 use Rattle.arena_symbols.proofs.Layers.{moves_then}

@@ -1,5 +1,5 @@
 use Rattle.std.proofs.Common.{Some}
-use Rattle.arena_tree.specs.declared.node.Kind.TheVariants as kind
+use Rattle.tree_nodes.specs.declared.node.Kind.TheVariants as kind
 use Rattle.arena_tree.proofs.Layers.{line_seen}
 use Rattle.arena_lint.proofs.SpendingLemmas.{err_takes, takes_exhausted}
 use Rattle.arena_lint.proofs.StatementLemmas.{let_name, let_finds}

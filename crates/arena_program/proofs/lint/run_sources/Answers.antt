@@ -1,7 +1,10 @@
-use Rattle.std.proofs.Common.{◌≡◌, ◌∙◌, refl, arith}
+use Rattle.std.proofs.Common.{◌∙◌, refl, ap, arith}
 use Rattle.std.proofs.lemmas.Slice.Zip.{AllZip-long}
-use Rattle.arena_program.specs.LintEnds.{text_of_linted}
-use Rattle.arena_program.proofs.RunLemmas.{whole_front}
+use Rattle.arena_pool.specs.declared.kind.PoolKind.TheVariants.{Standard}
+use Rattle.lint_reports.specs.Sources.{sources}
+use Rattle.arena_lint.specs.All.{IsLintedAlone}
+use Rattle.arena_program.specs.PoolEnds.{SourcesOf, text_of_linted}
+use Rattle.arena_program.proofs.RunLemmas.{whole_front, pieces_printed}
 use Rattle.arena_program.proofs.ToldLemmas.{reports_whole}
 use Rattle.arena_program.proofs.lint.run_sources.Goals as goal
 
@@ -13,46 +16,20 @@ report-requires g c =
 pub returns-in_default-report : goal.returns-in_default-report
 returns-in_default-report g c = λ arena. (
   record { reads = c.in-Ok.ensures.faults; writes = refl },
-  record { untouched = record { arena = refl; written = refl }; gained = c.in_default-report.ensures.same },
-  whole_front _ _ _ c.in-Ok.ensures.all (omega (arith, c.in-Ok.ensures.kept)),
+  (
+    record { untouched = record { arena = refl; written = refl }; gained = c.in_default-report.ensures.same },
+    whole_front _ _ _ c.in-Ok.ensures.all (omega (arith, c.in-Ok.ensures.kept)),
+  ),
 )
 
-pub returns-in-Ok-write_all : goal.returns-in-Ok-write_all
-returns-in-Ok-write_all g c =
-    let text : c.as_slice-3.result.now ≡ text_of_linted c.in-Ok-lint_over_pool.all.items
-    = c.as_slice-3.ensures.value ∙ c.in-Ok-report.ensures.text ∙ reports_whole c.in-Ok-lint_over_pool.all.items in
-    λ arena. (
-      record { reads = c.in-Ok.ensures.faults; writes = c.in-Ok-write_all.ensures.no_fault },
-      (
-        c.in-Ok-lint_over_pool.all.items,
-        record {
-          bytes = c.in-Ok.bytes.items;
-          whole = record { told = c.in-Ok.ensures.all; small = omega (arith, c.in-Ok.ensures.kept) };
-          alone = rw (c.as_slice-2.ensures.value, c.in-Ok-sources_in.ensures.sources, c.as_slice.ensures.value)
-              at c.in-Ok-lint_over_pool.ensures;
-          gained = c.in-Ok-report.ensures.gained;
-          arena = refl;
-        },
-        rw text at c.in-Ok-write_all.ensures.ok,
-      ),
-    )
-
 pub returns : goal.returns
-returns g c =
-    let text : c.as_slice-3.result.now ≡ text_of_linted c.in-Ok-lint_over_pool.all.items
-    = c.as_slice-3.ensures.value ∙ c.in-Ok-report.ensures.text ∙ reports_whole c.in-Ok-lint_over_pool.all.items in
-    λ arena. (
-      record { reads = c.in-Ok.ensures.faults; writes = c.in-Err.ensures.one_fault },
-      (
-        c.in-Ok-lint_over_pool.all.items,
-        record {
-          bytes = c.in-Ok.bytes.items;
-          whole = record { told = c.in-Ok.ensures.all; small = omega (arith, c.in-Ok.ensures.kept) };
-          alone = rw (c.as_slice-2.ensures.value, c.in-Ok-sources_in.ensures.sources, c.as_slice.ensures.value)
-              at c.in-Ok-lint_over_pool.ensures;
-          gained = c.in-Ok-report.ensures.gained;
-          arena = refl;
-        },
-        rw text at c.in-Err.ensures.part,
-      ),
-    )
+returns g c = λ arena. pieces_printed SourcesOf (IsLintedAlone _ Standard) (λ linted. linted.starved) text_of_linted
+    _ _ _ _ c.print.result _ c.in-Ok.bytes.items c.in-Ok-sources_in.sources.items c.in-Ok-lint_over_pool.all.items c.in-Ok.ensures.all
+    (omega (arith, c.in-Ok.ensures.kept)) (c.in-Ok-sources_in.ensures.sources ∙ ap sources c.as_slice.ensures.value)
+    (record {
+      alone = rw c.as_slice-2.ensures.value at c.in-Ok-lint_over_pool.ensures;
+      gained = c.in-Ok-report.ensures.gained;
+      arena = refl;
+    })
+    c.in-Ok.ensures.faults
+    (c.as_slice-3.ensures.value ∙ c.in-Ok-report.ensures.text ∙ reports_whole c.in-Ok-lint_over_pool.all.items) c.print.ensures

@@ -1,6 +1,6 @@
 use Rattle.std.proofs.Common.{◌++◌, ap, ◌∙◌, arith, length}
 use Rattle.std.specs.Vec.Iter.{into_iter_items}
-use Rattle.arena_program.specs.ScriptEnds.{starved_of}
+use Rattle.arena_program.specs.PoolEnds.{starved_of}
 use Rattle.arena_program.specs.Told.{text_from}
 use Rattle.arena_program.proofs.ToldLemmas.{text_step, starved_step}
 use Rattle.arena_program.proofs.told.tell.Goals as goal

@@ -1,6 +1,6 @@
 use Rattle.std.proofs.Common.{◌≡◌, ◌+◌, ◌++◌, length}
 use Rattle.std.specs.Vec.Iter.{into_iter_items}
-use Rattle.arena_program.specs.ScriptEnds.{starved_of}
+use Rattle.arena_program.specs.PoolEnds.{starved_of}
 use Rattle.arena_program.specs.Told.{text_from}
 use Rattle.arena_program.proofs.told.tell.Given as goal
 

@@ -19,21 +19,21 @@ returns-in_err-push g c =
     let paid : Paid = record { keeps = c.growth_costs.ensures.keeps; asks = c.growth_costs.ensures.asks } in
     let few = fits_both _ _ c.requires.can.some c.requires.can.few in
     rw (p.1, p.2) (unlisted paid g.met.T.Item.layout c.args.a.now c.push.new.a c.push.new.self c.args.value c.requires.can
-    c.min_align.ensures.state _ (c.vector_costs.ensures.fits _ _ _ _ _ _ _ few.0 few.1 c.in_err-push.ensures) c.in_err-push.ensures)
+    c.known.ensures.state _ (c.vector_costs.ensures.fits _ _ _ _ _ _ _ few.0 few.1 c.in_err-push.ensures) c.in_err-push.ensures)
 
 pub returns-in-Ok : goal.returns-in-Ok
 returns-in-Ok g c =
     let paid : Paid = record { keeps = c.growth_costs.ensures.keeps; asks = c.growth_costs.ensures.asks } in
-    let costs = c.insert_law.ensures.map _ _ _ _ _ _ _ (c.in_ok-push.ensures.frame.min_align ∙ c.min_align.ensures.state)
+    let costs = c.insert_law.ensures.map _ _ _ _ _ _ _ (c.in_ok-push.ensures.frame.min_align ∙ c.known.ensures.state)
     c.requires.can.keys_small (omega arith) (stays c.requires.can c.in_ok-push.ensures.frame).held c.in-Ok.ensures in
-    rw c.len-at.ensures (listed paid g.met.T.Item.layout _ _ _ c.args.value c.requires.can c.min_align.ensures.state c.in_ok-push.ensures
+    rw c.len-at.ensures (listed paid g.met.T.Item.layout _ _ _ c.args.value c.requires.can c.known.ensures.state c.in_ok-push.ensures
     _ _ _ costs (rw c.len-at.ensures at c.in-Ok.ensures))
 
 pub returns-in-Err : goal.returns-in-Err
 returns-in-Err g c =
     let paid : Paid = record { keeps = c.growth_costs.ensures.keeps; asks = c.growth_costs.ensures.asks } in
-    let costs = c.insert_law.ensures.map _ _ _ _ _ _ _ (c.in_ok-push.ensures.frame.min_align ∙ c.min_align.ensures.state)
+    let costs = c.insert_law.ensures.map _ _ _ _ _ _ _ (c.in_ok-push.ensures.frame.min_align ∙ c.known.ensures.state)
     c.requires.can.keys_small (omega arith) (stays c.requires.can c.in_ok-push.ensures.frame).held c.in-Err.ensures in
-    cut_off paid g.met.T.Item.layout _ _ _ c.args.value c.requires.can c.min_align.ensures.state c.in_ok-push.ensures _ _ _ _ costs
+    cut_off paid g.met.T.Item.layout _ _ _ c.args.value c.requires.can c.known.ensures.state c.in_ok-push.ensures _ _ _ _ costs
     (rw c.len-at.ensures at c.in-Err.ensures) (c.vector_costs.ensures.keeps _ _ _ _ _ _ _ c.in_ok-push.ensures)
     ((rw c.len-at.ensures at c.truncate.ensures).becomes c.push.new.a c.in_ok-push.ensures.held)

@@ -6,7 +6,8 @@ use arena_chunks::{Allocator, Block, ChunkSource};
 use arena_items::{ArenaItems, ItemErr};
 use std::process::Abort;
 
-// A call that places values: a single one is the `u32` 7, copied ones are the `u32` 1 to 3, all others are `u64`.
+// A call that places values: a single one, and each that fills a slice, is the `u32` 3, copied ones are the `u32` 1 to
+// 3. Those of a closure or an iterator are `u64`.
 #[derive(Drop)]
 pub(super) enum Call {
     Alloc,
@@ -75,8 +76,8 @@ fn place<C: ChunkSource>(
             .block
         }
         Call::FillWith(len) => a.alloc_slice_fill_with(len, |i| i.wrapping_mul(2))?.block,
-        Call::AllocWith => a.alloc_with(|| 7u32)?.block,
-        Call::TryAllocWith => a.try_alloc_with(|| 7u32)?.block,
+        Call::AllocWith => a.alloc_with(|| 3u32)?.block,
+        Call::TryAllocWith => a.try_alloc_with(|| 3u32)?.block,
         _ => place_copies(a, call)?,
     })
 }
@@ -86,11 +87,11 @@ fn place_copies<C: ChunkSource>(a: &mut Allocator<C>, call: &Call) -> Result<Blo
     Ok(match *call {
         Call::SliceCopy => a.alloc_slice_copy(VALUES)?.block,
         Call::SliceClone => a.alloc_slice_clone(VALUES)?.block,
-        Call::FillCopy(len) => a.alloc_slice_fill_copy(len, 7u64)?.block,
-        Call::FillClone(len) => a.alloc_slice_fill_clone(len, &7u64)?.block,
-        Call::FillDefault(len) => a.alloc_slice_fill_default::<u64>(len)?.block,
-        Call::TryAlloc => a.try_alloc(7u32)?.block,
-        _ => a.alloc(7u32)?.block,
+        Call::FillCopy(len) => a.alloc_slice_fill_copy(len, 3u32)?.block,
+        Call::FillClone(len) => a.alloc_slice_fill_clone(len, &3u32)?.block,
+        Call::FillDefault(len) => a.alloc_slice_fill_default::<u32>(len)?.block,
+        Call::TryAlloc => a.try_alloc(3u32)?.block,
+        _ => a.alloc(3u32)?.block,
     })
 }
 

@@ -5,11 +5,11 @@ use crate::tests::{ample, refusing};
 use arena_chunks::{Allocator, MemoryChunks};
 use std::process::Abort;
 
-const SEVEN: &[u8] = &[7, 0, 0, 0];
+const THREE: &[u8] = &[3, 0, 0, 0];
 
 const ONE_TO_THREE: &[u8] = &[1, 0, 0, 0, 2, 0, 0, 0, 3, 0, 0, 0];
 
-const SEVENS: &[u8] = b"\x07\0\0\0\0\0\0\0\x07\0\0\0\0\0\0\0";
+const THREES: &[u8] = &[3, 0, 0, 0, 3, 0, 0, 0, 3, 0, 0, 0];
 
 const DOUBLES: &[u8] = b"\0\0\0\0\0\0\0\0\x02\0\0\0\0\0\0\0\x04\0\0\0\0\0\0\0";
 
@@ -17,18 +17,18 @@ const NUMBERS: &[u8] = b"\x01\0\0\0\0\0\0\0\x02\0\0\0\0\0\0\0\x03\0\0\0\0\0\0\0"
 
 // Each call is made on a new allocator.
 const ROWS: &[Row] = &[
-    ("alloc", Call::Alloc, Placed(20412, SEVEN)),
-    ("try_alloc", Call::TryAlloc, Placed(20412, SEVEN)),
-    ("alloc_with", Call::AllocWith, Placed(20412, SEVEN)),
-    ("try_alloc_with", Call::TryAllocWith, Placed(20412, SEVEN)),
+    ("alloc", Call::Alloc, Placed(20412, THREE)),
+    ("try_alloc", Call::TryAlloc, Placed(20412, THREE)),
+    ("alloc_with", Call::AllocWith, Placed(20412, THREE)),
+    ("try_alloc_with", Call::TryAllocWith, Placed(20412, THREE)),
     ("copy", Call::SliceCopy, Placed(20404, ONE_TO_THREE)),
     ("clone", Call::SliceClone, Placed(20404, ONE_TO_THREE)),
-    ("fill_copy", Call::FillCopy(2), Placed(20400, SEVENS)),
-    ("fill_clone", Call::FillClone(2), Placed(20400, SEVENS)),
+    ("fill_copy", Call::FillCopy(3), Placed(20404, THREES)),
+    ("fill_clone", Call::FillClone(3), Placed(20404, THREES)),
     (
         "fill_default",
-        Call::FillDefault(2),
-        Placed(20400, &[0; 16]),
+        Call::FillDefault(3),
+        Placed(20404, &[0; 12]),
     ),
     ("fill_with", Call::FillWith(3), Placed(20392, DOUBLES)),
     ("fill_iter", Call::FillIter(3, 3), Placed(20392, NUMBERS)),
@@ -51,7 +51,7 @@ const TOO_MANY: &[Row] = &[
 const SIXTEEN: &[Row] = &[
     ("three of 4", Call::SliceCopy, Placed(4100, ONE_TO_THREE)),
     ("one of 8", Call::FillWith(1), Refused(0)),
-    ("one of 4", Call::AllocWith, Placed(4096, SEVEN)),
+    ("one of 4", Call::AllocWith, Placed(4096, THREE)),
     ("none", Call::FillWith(0), Placed(4096, &[])),
 ];
 

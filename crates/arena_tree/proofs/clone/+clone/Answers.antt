@@ -2,12 +2,12 @@ use Rattle.std.proofs.Common.{rules, ◌≡◌, ◌-◌, ◌*◌, ◌≤◌, ◌
 use Rattle.arena_vec.specs.Vecs.{vec_list}
 use Rattle.arena_tree.specs.TreesAt.{node_item}
 use Rattle.arena_tree.specs.Subtrees.{has_kids, HasTree, HasRow}
-use Rattle.arena_tree.proofs.WalkLemmas.{list_len}
-use Rattle.arena_tree.proofs.SpendingLemmas.{frees, err_spends, asks_of, asks_any}
+use Rattle.tree_nodes.proofs.WalkLemmas.{list_len}
+use Rattle.tree_nodes.proofs.SpendingLemmas.{frees, err_spends, asks_of, asks_any}
 use Rattle.arena_tree.proofs.CopyLayoutLemmas.{kid_copy, kids_copy, text_copy}
-use Rattle.arena_tree.proofs.BlockCostLemmas.{spends_same}
-use Rattle.arena_tree.proofs.SubtreeLemmas.{kids_it, kids_at, row_length}
-use Rattle.arena_tree.proofs.RowLemmas.{row_held, kid_of, kid_can, row_whole}
+use Rattle.tree_nodes.proofs.BlockCostLemmas.{spends_same}
+use Rattle.tree_nodes.proofs.SubtreeLemmas.{kids_it, kids_at, row_length}
+use Rattle.tree_nodes.proofs.RowLemmas.{row_held, kid_of, kid_can, row_whole}
 use Rattle.arena_tree.proofs.CloneLemmas.{more_kinds, number_copied, name_copied, let_copied, kids_copied, text_of, row_at, has_row}
 use Rattle.arena_tree.proofs.CloneCostLemmas.{forget, row_room, row_kid, part_spends, both_spend}
 use Rattle.arena_tree.proofs.clone.+clone.Goals as goal

@@ -1,7 +1,7 @@
 use Rattle.std.proofs.Common.{List, ◌∷◌, refl, arith}
 use Rattle.arena_tree.proofs.AskedLemmas.{asked_list, asked_longer, asked_name}
-use Rattle.arena_tree.proofs.SpendingLemmas.{spends_nothing, spends_then, spends_more, asks_of, asks_any, frees, frees_then, range_length, err_up_to}
-use Rattle.arena_tree.proofs.PartCostLemmas.{kid_read, kid_negated}
+use Rattle.tree_nodes.proofs.SpendingLemmas.{spends_nothing, spends_then, spends_more, asks_of, asks_any, frees, frees_then, range_length}
+use Rattle.arena_tree.proofs.PartCostLemmas.{kid_read, kid_negated, err_up_to}
 use Rattle.std.specs.Prelude.{slice_range}
 use Rattle.tree_rules.specs.Grammar.{ANumber, AName, InParens, Negated, OneFactor, Times, OneTerm, factor_tree, factors_tree, factor_trees}
 use Rattle.tree_rules.specs.Reading.{state}
@@ -10,8 +10,8 @@ use Rattle.tree_rules.specs.declared.machine.Open.TheVariants.{Paren, Sign}
 use Rattle.tree_rules.specs.declared.machine.Mode.TheVariants.{AtFactor, BehindFactor}
 use Rattle.arena_tree.specs.Subtrees.{OfExpr}
 use Rattle.arena_tree.specs.Parts.{behind_factor}
-use Rattle.arena_tree.proofs.BuildLemmas.{prod_placed, number_placed}
-use Rattle.arena_tree.proofs.RowLemmas.{row_held, exprs_built, exprs_more}
+use Rattle.tree_nodes.proofs.BuildLemmas.{prod_placed, number_placed}
+use Rattle.tree_nodes.proofs.RowLemmas.{row_held, exprs_built, exprs_more}
 use Rattle.arena_tree.proofs.PartLemmas.{reads_token, reads_then, reads_in, reads_next, opens_paren, opens_sign, reads_star, reads_sign, joined, reads_terms, terms_more, terms_placed}
 use Rattle.arena_tree.proofs.exprs.+parse.Goals as goal
 

@@ -2,7 +2,7 @@ use Rattle.std.proofs.Common.{rules, ◌≡◌, ◌-◌, ◌∙◌, refl, sym, S
 use Rattle.arena_exchange.proofs.Layers.{same_places}
 use Rattle.arena_items.proofs.Layers.{same_then}
 use Rattle.arena_tree.specs.FoldingParts.{CanFold, CanFoldRow, kids_folded}
-use Rattle.arena_tree.proofs.SubtreeLemmas.{kids_at}
+use Rattle.tree_nodes.proofs.SubtreeLemmas.{kids_at}
 use Rattle.arena_tree.proofs.FoldNodeLemmas.{leaf_folded, kids_can, kids_done, kids_done_lean, rule_done}
 use Rattle.arena_tree.proofs.FoldRowLemmas.{row_begins, turn_of, turn_whole, turn_can, row_next, held_still, set_list}
 use Rattle.arena_tree.proofs.fold.+fold.Goals as goal

@@ -1,6 +1,6 @@
 use Rattle.std.proofs.Common.{sym, ◌∙◌}
 use Rattle.arena_tree.specs.TreesAt.{kids_of, kids_in, ExprAt}
-use Rattle.arena_tree.proofs.WalkLemmas.{list_len, only_some, first_held, first_in}
+use Rattle.tree_nodes.proofs.WalkLemmas.{list_len, only_some, first_held, first_in}
 use Rattle.arena_tree.proofs.FoldRuleLemmas.{only_is}
 use Rattle.arena_tree.proofs.fold.only_kid.Goals as goal
 

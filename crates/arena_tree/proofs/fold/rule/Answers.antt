@@ -1,6 +1,6 @@
 use Rattle.std.proofs.Common.{ap, true, false, Some, None}
 use Rattle.arena_tree.specs.Subtrees.{OfExpr, has_kids}
-use Rattle.arena_tree.proofs.SubtreeLemmas.{kids_at}
+use Rattle.tree_nodes.proofs.SubtreeLemmas.{kids_at}
 use Rattle.arena_tree.proofs.FoldRuleLemmas.{other_stays, negation_is, neg_rule, inner_lean, total_rule, total_lean}
 use Rattle.arena_tree.proofs.fold.rule.Goals as goal
 

@@ -2,7 +2,7 @@ use Rattle.std.proofs.Common.{◌≡◌, ◌≤◌, ◌-◌, length, arith}
 use Rattle.arena_vec.specs.Vecs.{vec_list}
 use Rattle.arena_tree.specs.TreesAt.{node_item}
 use Rattle.arena_tree.specs.FoldingParts.{numbers_in}
-use Rattle.arena_tree.proofs.WalkLemmas.{list_len}
+use Rattle.tree_nodes.proofs.WalkLemmas.{list_len}
 use Rattle.arena_tree.proofs.TotalLemmas.{tail_begins, tail_more, tail_whole, no_total}
 use Rattle.arena_tree.proofs.fold.total.Goals as goal
 

@@ -2,7 +2,7 @@ use Rattle.arena_exchange.proofs.Layers.{all_turned}
 use Rattle.arena_vec.specs.Vecs.{vec_list}
 use Rattle.arena_tree.specs.Folding.{footprint}
 use Rattle.arena_tree.specs.TreesAt.{node_item}
-use Rattle.arena_tree.proofs.OneTreeLemmas.{one_stmts}
+use Rattle.tree_nodes.proofs.OneTreeLemmas.{one_stmts}
 use Rattle.arena_tree.proofs.WholeTreeLemmas.{tree_readable, tree_stays, tree_beside, tree_back, lists_apart}
 use Rattle.arena_tree.proofs.laws.tree_law.Goals as goal
 

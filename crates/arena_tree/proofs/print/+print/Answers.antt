@@ -2,13 +2,13 @@ use Rattle.std.proofs.Common.{rules, ◌≡◌, true, ◌≤◌, ◌-◌, ◌∙
 use Rattle.std.proofs.lemmas.List.{drop_all}
 use Rattle.std.proofs.lemmas.Grind.{common_steps}
 use Rattle.arena_vec.specs.Vecs.{vec_list}
-use Rattle.arena_tree.specs.declared.node.Kind.TheVariants as kind
+use Rattle.tree_nodes.specs.declared.node.Kind.TheVariants as kind
 use Rattle.arena_tree.specs.TreesAt.{node_item}
 use Rattle.arena_tree.specs.Subtrees.{has_kids, HasTree}
 use Rattle.arena_tree.specs.Printing.{stand_of}
-use Rattle.arena_tree.proofs.WalkLemmas.{list_len}
-use Rattle.arena_tree.proofs.SubtreeLemmas.{kids_it, kids_at, row_length}
-use Rattle.arena_tree.proofs.RowLemmas.{kid_of, kid_can}
+use Rattle.tree_nodes.proofs.WalkLemmas.{list_len}
+use Rattle.tree_nodes.proofs.SubtreeLemmas.{kids_it, kids_at, row_length}
+use Rattle.tree_nodes.proofs.RowLemmas.{kid_of, kid_can}
 use Rattle.arena_tree.proofs.CloneLemmas.{more_kinds, text_of, row_at, has_row}
 use Rattle.arena_tree.proofs.PrintLemmas.{text_is, inner_kind, taken_kids, taken_piece, plain_piece, row_more}
 use Rattle.arena_tree.proofs.print.+print.Goals as goal

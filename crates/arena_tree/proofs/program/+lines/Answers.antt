@@ -1,14 +1,15 @@
 use Rattle.std.proofs.Common.{suc, refl, ap, ◌∙◌, ◌∷◌, arith, ◌+◌, ◌-◌}
 use Rattle.arena_tree.specs.Spending.{most_for, credit}
 use Rattle.arena_tree.proofs.AskedLemmas.{asked_longer}
-use Rattle.arena_tree.proofs.SpendingLemmas.{asks_of, asks_any, spends_nothing, spends_then, spends_more, frees, frees_then, err_all, err_or_not}
+use Rattle.tree_nodes.proofs.SpendingLemmas.{asks_of, asks_any, spends_nothing, spends_then, spends_more, frees, frees_then}
+use Rattle.arena_tree.proofs.PartCostLemmas.{err_all, err_or_not}
 use Rattle.arena_store.specs.declared.block.Block.{Block}
 use Rattle.tree_rules.specs.Tokens.{LeftBrace}
 use Rattle.tree_rules.specs.Grammar.{BlockLine, Empty, Next, spell, line_tree, trees_of}
 use Rattle.arena_tree.specs.Subtrees.{OfStmt}
 use Rattle.arena_tree.specs.LineParts.{at_line}
-use Rattle.arena_tree.proofs.LinesLemmas.{block_placed}
-use Rattle.arena_tree.proofs.RowLemmas.{row_none, stmts_built, stmts_more}
+use Rattle.tree_nodes.proofs.LinesLemmas.{block_placed}
+use Rattle.tree_nodes.proofs.RowLemmas.{row_none, stmts_built, stmts_more}
 use Rattle.arena_tree.proofs.PartLemmas.{reads_token, opens_brace}
 use Rattle.arena_tree.proofs.program.+lines.Goals as goal
 

@@ -1,13 +1,14 @@
 use Rattle.std.proofs.Common.{arith, refl, ◌-◌}
 use Rattle.arena_tree.specs.Spending.{most_for}
 use Rattle.arena_tree.proofs.AskedLemmas.{asked_list, asked_name}
-use Rattle.arena_tree.proofs.SpendingLemmas.{asks_of, asks_any, spends_then, spends_more, frees, frees_then, range_length, err_up_to}
+use Rattle.tree_nodes.proofs.SpendingLemmas.{asks_of, asks_any, spends_then, spends_more, frees, frees_then, range_length}
+use Rattle.arena_tree.proofs.PartCostLemmas.{err_up_to}
 use Rattle.std.specs.Prelude.{slice_range}
 use Rattle.tree_rules.specs.Trees.{NoExprs, And}
 use Rattle.tree_rules.specs.Grammar.{LetLine, terms_tree}
 use Rattle.arena_tree.specs.LineParts.{braces}
-use Rattle.arena_tree.proofs.LinesLemmas.{let_node_placed}
-use Rattle.arena_tree.proofs.RowLemmas.{exprs_built}
+use Rattle.tree_nodes.proofs.LinesLemmas.{let_node_placed}
+use Rattle.tree_nodes.proofs.RowLemmas.{exprs_built}
 use Rattle.arena_tree.proofs.PartLemmas.{reads_then, reads_value}
 use Rattle.arena_tree.proofs.program.let_line.Goals as goal
 

@@ -1,11 +1,12 @@
 use Rattle.std.proofs.Common.{arith, refl}
 use Rattle.arena_tree.proofs.AskedLemmas.{asked_list}
-use Rattle.arena_tree.proofs.SpendingLemmas.{asks_of, asks_any, spends_then, frees, err_up_to}
+use Rattle.tree_nodes.proofs.SpendingLemmas.{asks_of, asks_any, spends_then, frees}
+use Rattle.arena_tree.proofs.PartCostLemmas.{err_up_to}
 use Rattle.tree_rules.specs.Trees.{NoExprs, And}
 use Rattle.tree_rules.specs.Grammar.{ShowLine, terms_tree}
 use Rattle.arena_tree.specs.LineParts.{braces}
-use Rattle.arena_tree.proofs.LinesLemmas.{show_placed}
-use Rattle.arena_tree.proofs.RowLemmas.{exprs_built}
+use Rattle.tree_nodes.proofs.LinesLemmas.{show_placed}
+use Rattle.tree_nodes.proofs.RowLemmas.{exprs_built}
 use Rattle.arena_tree.proofs.PartLemmas.{reads_value}
 use Rattle.arena_tree.proofs.program.show_line.Goals as goal
 

@@ -82,28 +82,40 @@ fn a_list_of_boxes(rt: HostRuntime) {
 }
 
 #[test]
+fn a_value_in_a_box(rt: HostRuntime) {
+    let mut a = ample(rt.alloc());
+    let boxed = <Option<Box<u32>>>::from_in(Some(5u32), &mut a).expect(&rt, "a box");
+    same(&rt, read(&rt, &a, boxed.expect(&rt, "some")), 5);
+    let boxed: Box<u32> = Box::from_in(3u32, &mut a).expect(&rt, "a box");
+    same(&rt, read(&rt, &a, boxed), 3);
+}
+
+#[test]
 fn conversions(rt: HostRuntime) {
     let alloc = rt.alloc();
     let mut a = ample(alloc);
-    let boxed: Option<Box<u32>> = Some(5u32).into_in(&mut a).expect(&rt, "a box");
-    same(&rt, read(&rt, &a, boxed.expect(&rt, "some")), 5);
-    let list: Vec<u32> = Vec::from_in([1, 2, 3], &mut a).expect(&rt, "a list");
-    assert!(rt; list.len() == 3 && list.capacity() == 3);
-    same(&rt, u32::from_in(7, &mut a), Ok(7));
+    let list: Vec<u32> = [1u32, 2, 3].into_in(&mut a).expect(&rt, "a list");
+    assert!(rt; is_list(&rt, &a, list, &[1, 2, 3]) && list.capacity() == 3);
+    same(&rt, u32::from_in(3, &mut a), Ok(3));
     let text = String::from_str(alloc, "ab").expect(&rt, "a text");
     let text = Str::from_in(text, &mut a).expect(&rt, "a text");
     assert!(rt; text.get(&a) == Some("ab"));
 }
 
 #[test]
-fn dummies_and_exchange(rt: HostRuntime) {
-    let alloc = rt.alloc();
-    let mut a = ample(alloc);
+fn a_dummy(rt: HostRuntime) {
+    let mut a = ample(rt.alloc());
     let dummy: Box<u8> = Box::dummy(&mut a).expect(&rt, "a dummy");
     same(&rt, read(&rt, &a, dummy), 0);
+}
+
+#[test]
+fn exchange(rt: HostRuntime) {
+    let mut a = ample(rt.alloc());
     let mut seven = Vec::from_value_in(7u32, &mut a).expect(&rt, "a list");
-    let mut taken = seven.take_in(&mut a).expect(&rt, "the list");
+    let taken = seven.take_in(&mut a).expect(&rt, "the list");
     assert!(rt; is_list(&rt, &a, taken, &[7]) && seven.is_empty());
-    let in_box = taken.take_in_box(&mut a).expect(&rt, "the list");
-    assert!(rt; is_list(&rt, &a, read(&rt, &a, in_box), &[7]) && taken.is_empty());
+    let mut list = Vec::from_array_in([1u32, 2, 3], &mut a).expect(&rt, "a list");
+    let in_box = list.take_in_box(&mut a).expect(&rt, "the list");
+    assert!(rt; is_list(&rt, &a, read(&rt, &a, in_box), &[1, 2, 3]) && list.is_empty());
 }

@@ -5,7 +5,7 @@ ghost use Rattle.arena_hash.specs.Contents.{kind};
 ghost use Rattle.collection_tests.specs.Held.{IsKept, ArePlain};
 
 use arena_chunks::{Allocator, ChunkSource, MemoryChunks};
-use arena_hash::{ArenaKey, HashMap, KeyHasher};
+use arena_hash::{ArenaKey, HashMap, IntoKeys, IntoValues, KeyHasher};
 use arena_items::{Grown, Item};
 use std::marker::Model;
 
@@ -56,6 +56,20 @@ impl<K: ArenaKey, V: Item, S: KeyHasher + Copy, C: ChunkSource> Kept<K, V, S, C>
 
     pub(super) fn get(&self, key: K) -> Option<V> {
         self.map.get(&self.a, key)
+    }
+
+    pub(super) fn contains(&self, key: K) -> bool {
+        self.map.contains_key(&self.a, key)
+    }
+
+    // The keys, in the order of a walk.
+    pub(super) fn keys(&self) -> IntoKeys<'_, K, V, C> {
+        self.map.into_keys(&self.a)
+    }
+
+    // The values, in the order of a walk.
+    pub(super) fn values(&self) -> IntoValues<'_, K, V, C> {
+        self.map.into_values(&self.a)
     }
 
     pub(super) fn remove(&mut self, key: K) -> Option<V> {

@@ -15,6 +15,11 @@ fn collects<S: KeyHasher + Copy>(rt: &impl Abort, alloc: Global, pairs: &[(u32, 
     assert!(rt; map.collect(pairs.iter().copied()).is_ok());
     same(rt, map.get(1), Some(3));
     same(rt, map.len(), 1);
+    assert!(rt; map.contains(1) && !map.contains(2));
+    let mut keys = map.keys();
+    same(rt, (keys.next(), keys.next()), (Some(1), None));
+    let mut values = map.values();
+    same(rt, (values.next(), values.next()), (Some(3), None));
 }
 
 #[test]

@@ -8,21 +8,21 @@ use std::process::Abort;
 
 // Makes a set, and inserts an item twice.
 fn inserts<C: ChunkSource>(rt: &impl Abort, a: &mut Allocator<C>) {
-    let mut set: HashSet<u16> = HashSet::with_capacity_in(3, a).expect(rt, "a set");
+    let mut set: HashSet<u32> = HashSet::with_capacity_in(3, a).expect(rt, "a set");
     same(rt, set.insert(a, 4), Ok(true));
     same(rt, set.insert(a, 4), Ok(false));
 }
 
 // Makes sets by the other calls.
-fn makes<C: ChunkSource>(rt: &impl Abort, a: &mut Allocator<C>, items: &[u16]) {
-    let set: HashSet<u16> = HashSet::new_in();
+fn makes<C: ChunkSource>(rt: &impl Abort, a: &mut Allocator<C>, items: &[u32]) {
+    let set: HashSet<u32> = HashSet::new_in();
     same(rt, set.len(), 0);
-    let set: HashSet<u16> = HashSet::from(HashMap::new_in());
+    let set: HashSet<u32> = HashSet::from(HashMap::new_in());
     same(rt, set.len(), 0);
-    let made: Grown<HashSet<u16, Zero>> = HashSet::with_capacity_and_hasher_in(3, Zero {}, a);
-    assert!(rt; made.is_ok());
-    let made: Grown<HashSet<u16>> = HashSet::from_iter_in(items.iter().copied(), a);
-    assert!(rt; made.is_ok());
+    let made: Grown<HashSet<u32, Zero>> = HashSet::with_capacity_and_hasher_in(3, Zero {}, a);
+    same(rt, made.expect(rt, "a set").len(), 0);
+    let made: Grown<HashSet<u32>> = HashSet::from_iter_in(items.iter().copied(), a);
+    same(rt, made.expect(rt, "a set").len(), 3);
 }
 
 #[test]

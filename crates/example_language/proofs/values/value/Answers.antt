@@ -1,4 +1,4 @@
-use Rattle.std.proofs.Common.{◌≡◌, ℕ, ◌+◌, ◌≤◌, List, [], ◌∷◌, ◌++◌, drop, length, ap, sym, subst, ◌∙◌, arith, vec_len}
+use Rattle.std.proofs.Common.{◌≡◌, ℕ, ◌+◌, ◌≤◌, List, drop, length, ap, sym, subst, ◌∙◌, arith}
 use Rattle.arena.specs.Vecs.{vec_list}
 use Rattle.example_language.specs.Nodes.{node_item}
 use Rattle.example_language.specs.Trees.{IsAfter}

@@ -30,9 +30,10 @@ fn a_read_and_a_write_fail(rt: HostRuntime) -> Result<(), Fail> {
 }
 
 // Calls, and the replies that follow from the rules.
-const LINES: &str = "alloc 7 5 1 46\nwrite 7 0 68656c6c6f\nread 7\nused\nallocated\n";
+pub(super) const LINES: &str = "alloc 7 5 1 46\nwrite 7 0 68656c6c6f\nread 7\nused\nallocated\n";
 
-const REPLIES: &str = "placed 20411 refused 0\ndone\nbytes 68656c6c6f\nnumber 5\nnumber 16320\n";
+pub(super) const REPLIES: &str =
+    "placed 20411 refused 0\ndone\nbytes 68656c6c6f\nnumber 5\nnumber 16320\n";
 
 // Reads and writes transfer one byte, and those with these numbers fail.
 fn by_bytes<'a>(reads: &'a [u64], writes: &'a [u64]) -> Asked<'a> {

@@ -1,4 +1,5 @@
 // Tests of lines of calls, and of the replies that follow from the rules.
+use super::endings::{LINES, REPLIES};
 use super::{Asked, CALLS, ends_so, holds, run_over};
 use arena_chunks::RefusingChunks;
 use std::alloc::Global;
@@ -6,10 +7,6 @@ use std::process::Abort;
 use std::test::Fail;
 
 // Lines of calls, and the expected replies.
-fn rows() -> &'static [(&'static str, &'static str)] {
-    ROWS
-}
-
 const ROWS: &[(&str, &str)] = &[
     // no calls
     ("", ""),
@@ -20,10 +17,7 @@ const ROWS: &[(&str, &str)] = &[
         "no such name\nbad layout\nno such name\n",
     ),
     // first block
-    (
-        "alloc 7 5 1 46\nwrite 7 0 68656c6c6f\nread 7\nused\nallocated\n",
-        "placed 20411 refused 0\ndone\nbytes 68656c6c6f\nnumber 5\nnumber 16320\n",
-    ),
+    (LINES, REPLIES),
     // empty blocks
     (
         "alloc 0 0 16 0\nallocated\nalloc 1 0 32 0\nallocated\nused\n",
@@ -112,7 +106,7 @@ const ROWS: &[(&str, &str)] = &[
 
 #[test]
 fn replies_that_the_rules_give(rt: HostRuntime) -> Result<(), Fail> {
-    for (calls, replies) in rows() {
+    for (calls, replies) in ROWS {
         let asked = Asked {
             text: calls.as_bytes(),
             ..CALLS

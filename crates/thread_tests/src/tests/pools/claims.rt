@@ -1,8 +1,10 @@
 // Tests of words that are claimed, by one seat after another and by many threads at once.
-ghost use Rattle.std.specs.Prelude.{◌≡◌, ◌≤◌, All, IfOk};
+ghost use Rattle.std.specs.Prelude.{◌≡◌, ◌<◌, ◌≤◌, [], ◌∷◌, All, IfOk};
+ghost use Rattle.arena_pool.specs.Claiming.{new_view};
 
+use crate::tests::holds;
 use arena_pool::{ClaimErr, ClaimSeat, Claims};
-use example_collections::claim_all;
+use example_collections::{claim_all, claim_by_two};
 use std::alloc::Global;
 use std::process::Abort;
 use std::test::*;
@@ -12,6 +14,32 @@ use std::thread::Threads;
 const WORKERS: usize = 64;
 
 const WORDS: u32 = 10_000;
+
+// Claims a word with a seat, tries it again with one that is split off then, and joins the two: the list of the first
+// seat has the word once.
+fn claimed_once(rt: &impl Abort, claims: &Claims, seat: &mut ClaimSeat)
+    requires seat { seat.old.table ≡ claims.now }
+    requires new { seat.old.view ≡ new_view }
+    requires words { 0 < claims.now.words }
+    ensures table { seat.new.table ≡ claims.now }
+    ensures list { seat.new.view.claimed ≡ 0 ∷ [] }
+{
+    if !claims.claim(seat, 0) {
+        panic!(rt; "a word that is free");
+    }
+    let mut other = claims.split(seat);
+    if claims.claim(&mut other, 0) {
+        panic!(rt; "a word that is taken");
+    }
+    claims.join(seat, other);
+}
+
+#[test]
+fn the_only_word_is_claimed_once(rt: HostRuntime) {
+    let (claims, mut seat) = Claims::new(rt.alloc(), 1).ok().expect(&rt, "claims");
+    claimed_once(&rt, &claims, &mut seat);
+    holds(&rt, claims.is_claimed(&mut seat, 0), "a word that is taken");
+}
 
 // Claims the words in order. Before each claim a new seat looks at every word; after it, that seat tries to claim the
 // word, and is joined. Returns whether the calls of the new seats claimed or released no word.
@@ -93,5 +121,15 @@ fn threads_claim_each_word_once(rt: HostRuntime) {
         let words = claimed.ok().expect(&rt, "words");
         assert!(rt; count(&mut counts, &words));
     }
+    assert!(rt; counts.iter().all(|count| *count == 1));
+}
+
+#[test]
+fn two_threads_claim_each_word_once(rt: HostRuntime) {
+    let claimed = claim_by_two(&rt, rt.alloc(), 9);
+    let (ours, theirs) = claimed.ok().expect(&rt, "words");
+    let mut counts = [0; 9];
+    holds(&rt, count(&mut counts, &ours), "words");
+    holds(&rt, count(&mut counts, &theirs), "words");
     assert!(rt; counts.iter().all(|count| *count == 1));
 }

@@ -6,7 +6,10 @@ ghost use Rattle.arena_pool.specs.declared.kind.PoolKind.TheVariants.{Standard, 
 use super::{VALUES, are_values, marks};
 use crate::tests::{Counted, holds};
 use arena_pool::{ChunkMaker, FixedSizeAllocatorPool, MOST_LENT, PoolName, StandardAllocatorPool};
-use example_collections::{all_through_fixed, all_through_standard, through_standard};
+use example_collections::{
+    all_through_fixed, all_through_standard, over_fixed, over_limited, over_standard,
+    through_standard,
+};
 use std::alloc::Global;
 use std::marker::Brand;
 use std::process::Abort;
@@ -135,4 +138,13 @@ fn loans(rt: HostRuntime) {
     for arenas in [0, 2] {
         loans_without_end::<Brand, _>(&rt, rt.alloc(), arenas, Blank::new(MOST_LENT));
     }
+}
+
+// The limited pool keeps no arena that comes back.
+#[test]
+fn values_through_new_pools(rt: HostRuntime) {
+    let alloc = rt.alloc();
+    are_values(&rt, over_standard(&rt, alloc, 2, 1 << 20, &VALUES));
+    are_values(&rt, over_limited(&rt, alloc, 2, 0, 1 << 20, &VALUES));
+    are_values(&rt, over_fixed(&rt, alloc, 1, 112, &VALUES));
 }

@@ -6,7 +6,7 @@ use crate::tests::holds;
 use arena_chunks::{Allocator, ChunkSource, MemoryChunks};
 use arena_place::Layout;
 use arena_pool::{Owner, share};
-use example_collections::{alone, freed};
+use example_collections::{alone, freed, freed_by_two};
 use std::alloc::Global;
 use std::process::Abort;
 use std::sync::Wait;
@@ -91,4 +91,11 @@ fn each_shared_arena_is_freed_once(rt: HostRuntime) {
             "its bytes",
         );
     }
+}
+
+#[test]
+fn one_of_two_threads_frees_the_arena(rt: HostRuntime) {
+    let freed = freed_by_two(&rt, rt.alloc(), new_arena(rt.alloc()));
+    let (ours, theirs) = freed.ok().expect(&rt, "owners");
+    holds(&rt, ours.is_some() != theirs.is_some(), "one arena");
 }

@@ -1,6 +1,6 @@
 use Rattle.std.proofs.Common.{◌-◌, sym, ◌∙◌, arith}
 use Rattle.std.proofs.lemmas.List.{get_or_read}
-use Rattle.arena_chunks.proofs.LogLemmas.{letting_first, letting_next}
+use Rattle.arena_chunks.proofs.RunLemmas.Log.{letting_first, letting_next}
 use Rattle.arena_chunks.proofs.runs.marks.let_go.Goals as goal
 
 pub loop-count-init : goal.loop-count-init

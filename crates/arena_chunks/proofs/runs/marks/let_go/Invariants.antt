@@ -1,4 +1,4 @@
-use Rattle.arena_chunks.specs.Marks.{LetsGo}
+use Rattle.arena_chunks.specs.Runs.Marks.{LetsGo}
 use Rattle.arena_chunks.proofs.runs.marks.let_go.Given as goal
 
 abbrev pub invariant-loop-count : goal.invariant-loop-count

@@ -2,7 +2,7 @@ use Rattle.std.proofs.Common.{◌≡◌, ℕ, [], ◌∷◌, ◌++◌, ◌+◌, 
 use Rattle.std.proofs.Math.Seq.{take-suc}
 use Rattle.std.proofs.lemmas.Option.{slice_get_read}
 use Rattle.call_rules.specs.declared.calls.Call.{Call}
-use Rattle.arena_chunks.proofs.RunLemmas.{running_first, running_stopped}
+use Rattle.arena_chunks.proofs.RunLemmas.Running.{running_first, running_stopped}
 use Rattle.arena_chunks.proofs.runs.run.run_calls_into.Goals as goal
 
 pub loop-done-init : goal.loop-done-init

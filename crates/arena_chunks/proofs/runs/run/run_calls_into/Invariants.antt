@@ -1,8 +1,8 @@
 use Rattle.std.proofs.Common.{◌+◌, ◌≤◌, List, length, take}
 use Rattle.call_rules.specs.declared.calls.Reply.{Reply}
-use Rattle.arena_chunks.specs.Replies.{TakesMore}
+use Rattle.arena_chunks.specs.Runs.Replies.{TakesMore}
 use Rattle.arena_store.specs.Source.{view}
-use Rattle.arena_chunks.specs.Running.{IsRunning}
+use Rattle.arena_chunks.specs.Runs.Running.{IsRunning}
 use Rattle.arena_chunks.proofs.runs.run.run_calls_into.Given as goal
 
 abbrev pub invariant-loop-done : goal.invariant-loop-done

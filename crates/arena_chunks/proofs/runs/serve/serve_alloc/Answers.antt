@@ -5,9 +5,9 @@ use Rattle.call_rules.specs.Requests.{placed_anew}
 use Rattle.call_rules.specs.declared.calls.Call.TheVariants.{Alloc}
 use Rattle.call_rules.specs.declared.calls.Reply.TheVariants.{AllocErr}
 use Rattle.arena_core.proofs.AnswerLemmas.{on_err}
-use Rattle.arena_chunks.proofs.HeldLemmas.{get-inserted, insert_again, remove_inserted}
-use Rattle.arena_chunks.proofs.LogLemmas.{notes_still, notes_placed, notes_refused}
-use Rattle.arena_chunks.proofs.ServingLemmas.{none_of, asks_still, serves_still, serves_alloc}
+use Rattle.call_rules.proofs.HeldLemmas.{get-inserted, insert_again, remove_inserted}
+use Rattle.arena_chunks.proofs.RunLemmas.Log.{notes_still, notes_placed, notes_refused}
+use Rattle.arena_chunks.proofs.RunLemmas.Serving.{none_of, asks_still, serves_still, serves_alloc}
 use Rattle.arena_chunks.proofs.runs.serve.serve_alloc.Goals as goal
 
 pub returns-then-is_some-clause-serves : goal.returns-then-is_some-clause-serves

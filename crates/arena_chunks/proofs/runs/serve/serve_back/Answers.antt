@@ -3,10 +3,10 @@ use Rattle.call_rules.specs.Machine.{step, mark_named}
 use Rattle.call_rules.specs.Requests.{placed_anew}
 use Rattle.call_rules.specs.declared.calls.Call.TheVariants.{Back}
 use Rattle.call_rules.specs.declared.calls.Reply.TheVariants.{NoSuchName}
-use Rattle.arena_chunks.specs.Marks.{named}
-use Rattle.arena_chunks.proofs.ServingLemmas.{none_of, asks_still}
-use Rattle.arena_chunks.proofs.MarkingLemmas.{marks_still}
-use Rattle.arena_chunks.proofs.GoingBackLemmas.{serves_back, back_accepted}
+use Rattle.arena_chunks.specs.Runs.Marks.{named}
+use Rattle.arena_chunks.proofs.RunLemmas.Serving.{none_of, asks_still}
+use Rattle.arena_chunks.proofs.RunLemmas.Marking.{marks_still}
+use Rattle.arena_chunks.proofs.RunLemmas.GoingBack.{serves_back, back_accepted}
 use Rattle.arena_chunks.proofs.runs.serve.serve_back.Goals as goal
 
 pub returns-then-not-has-clause-serves : goal.returns-then-not-has-clause-serves

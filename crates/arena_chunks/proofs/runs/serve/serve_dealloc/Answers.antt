@@ -1,8 +1,8 @@
 use Rattle.std.proofs.Common.{arith, sym, ◌∙◌, refl}
 use Rattle.call_rules.specs.Machine.{step}
 use Rattle.call_rules.specs.Requests.{placed_anew}
-use Rattle.arena_chunks.proofs.HeldLemmas.{remove_absent}
-use Rattle.arena_chunks.proofs.ServingLemmas.{readable_at, asks_still, serves_still, absent_at, serves_dealloc}
+use Rattle.call_rules.proofs.HeldLemmas.{remove_absent}
+use Rattle.arena_chunks.proofs.RunLemmas.Serving.{readable_at, asks_still, serves_still, absent_at, serves_dealloc}
 use Rattle.arena_chunks.proofs.runs.serve.serve_dealloc.Goals as goal
 
 pub returns-in_default-clause-serves : goal.returns-in_default-clause-serves

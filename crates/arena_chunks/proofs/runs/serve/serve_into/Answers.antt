@@ -5,13 +5,13 @@ use Rattle.std.proofs.lemmas.Bool.{or_left}
 use Rattle.call_rules.specs.Machine.{step}
 use Rattle.call_rules.specs.Requests.{placed_anew}
 use Rattle.arena_store.specs.Source.{view}
-use Rattle.arena_chunks.specs.Replies.{has_bytes}
-use Rattle.arena_chunks.specs.Serving.{ServesRun}
+use Rattle.arena_chunks.specs.Runs.Replies.{has_bytes}
+use Rattle.arena_chunks.specs.Runs.Serving.{ServesRun}
 use Rattle.arena_core.proofs.AnswerLemmas.{on_err_less, on_ok_less}
-use Rattle.arena_chunks.proofs.HeldLemmas.{less_removed}
-use Rattle.arena_chunks.proofs.LogLemmas.{notes_still}
-use Rattle.arena_chunks.proofs.MarkingLemmas.{run_served}
-use Rattle.arena_chunks.proofs.ServingLemmas.{asks_still, serves_still}
+use Rattle.call_rules.proofs.HeldLemmas.{less_removed}
+use Rattle.arena_chunks.proofs.RunLemmas.Log.{notes_still}
+use Rattle.arena_chunks.proofs.RunLemmas.Marking.{run_served}
+use Rattle.arena_chunks.proofs.RunLemmas.Serving.{asks_still, serves_still}
 use Rattle.arena_chunks.proofs.runs.serve.serve_into.Goals as goal
 use Rattle.arena_chunks.proofs.runs.serve.serve_into.Goals.{in-Alloc+in_ok-reply-in-Alloc, in-Grow+in_ok-reply-in-Grow, in-Shrink+in_ok-reply-in-Shrink, in-Dealloc, in-Write, in-Mark+in_ok-reply-in-Mark, in-Back, in-Reset, in-Used, in-Allocated}
 

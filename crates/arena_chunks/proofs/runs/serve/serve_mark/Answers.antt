@@ -4,8 +4,8 @@ use Rattle.call_rules.specs.Requests.{placed_anew}
 use Rattle.call_rules.specs.declared.calls.Call.TheVariants.{Mark}
 use Rattle.call_rules.specs.declared.calls.Reply.TheVariants.{NameTaken}
 use Rattle.arena_core.proofs.AnswerLemmas.{on_err}
-use Rattle.arena_chunks.proofs.ServingLemmas.{asks_still}
-use Rattle.arena_chunks.proofs.MarkingLemmas.{marks_still, serves_mark, none_named}
+use Rattle.arena_chunks.proofs.RunLemmas.Serving.{asks_still}
+use Rattle.arena_chunks.proofs.RunLemmas.Marking.{marks_still, serves_mark, none_named}
 use Rattle.arena_chunks.proofs.runs.serve.serve_mark.Goals as goal
 
 pub returns-then-has-clause-serves : goal.returns-then-has-clause-serves

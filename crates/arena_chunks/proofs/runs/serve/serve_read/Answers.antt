@@ -4,9 +4,9 @@ use Rattle.call_rules.specs.Requests.{placed_anew}
 use Rattle.call_rules.specs.declared.calls.Reply.TheVariants.{Bytes, NoSuchName}
 use Rattle.call_rules.specs.declared.calls.Call.TheVariants.{Read}
 use Rattle.arena_store.specs.Source.{view}
-use Rattle.arena_chunks.specs.Serving.{Serves}
+use Rattle.arena_chunks.specs.Runs.Serving.{Serves}
 use Rattle.arena_core.proofs.AnswerLemmas.{on_ok_less}
-use Rattle.arena_chunks.proofs.ServingLemmas.{readable_at, asks_still, serves_still, absent_at, found_at}
+use Rattle.arena_chunks.proofs.RunLemmas.Serving.{readable_at, asks_still, serves_still, absent_at, found_at}
 use Rattle.arena_chunks.proofs.runs.serve.serve_read.Goals as goal
 
 pub returns-in_default-clause-serves : goal.returns-in_default-clause-serves

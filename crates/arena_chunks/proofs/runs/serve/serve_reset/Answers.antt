@@ -1,6 +1,6 @@
 use Rattle.std.proofs.Common.{ap}
 use Rattle.arena_store.specs.Memory.{Memory}
-use Rattle.arena_chunks.proofs.MarkingLemmas.{serves_reset_run}
+use Rattle.arena_chunks.proofs.RunLemmas.Marking.{serves_reset_run}
 use Rattle.arena_chunks.proofs.runs.serve.serve_reset.Goals as goal
 
 pub returns-clause-serves : goal.returns-clause-serves

@@ -3,9 +3,9 @@ use Rattle.std.specs.Prelude.{◌==◌, ◌&&◌}
 use Rattle.std.specs.Option.{is_none}
 use Rattle.call_rules.specs.declared.calls.Reply.TheVariants.{NoSuchName, BadLayout, OutOfRange}
 use Rattle.arena_core.proofs.AnswerLemmas.{on_err}
-use Rattle.arena_chunks.proofs.LogLemmas.{notes_settled, notes_refused}
-use Rattle.arena_chunks.proofs.ServingLemmas.{readable_at, absent_at, found_at}
-use Rattle.arena_chunks.proofs.ResizingLemmas.{resizing_still, resizing_wants, resizing_takes, serves_resized, serves_unresized}
+use Rattle.arena_chunks.proofs.RunLemmas.Log.{notes_settled, notes_refused}
+use Rattle.arena_chunks.proofs.RunLemmas.Serving.{readable_at, absent_at, found_at}
+use Rattle.arena_chunks.proofs.RunLemmas.Resizing.{resizing_still, resizing_wants, resizing_takes, serves_resized, serves_unresized}
 use Rattle.arena_chunks.proofs.runs.serve.serve_resize.Goals as goal
 use Rattle.arena_chunks.proofs.runs.serve.serve_resize.Goals.{then-is_none, else-is_none}
 

@@ -1,7 +1,7 @@
 use Rattle.std.proofs.Common.{◌+◌, ◌<◌, arith, sym, ◌∙◌, length, lt-ltb, refl}
 use Rattle.call_rules.specs.Machine.{step}
 use Rattle.call_rules.specs.Requests.{placed_anew}
-use Rattle.arena_chunks.proofs.ServingLemmas.{readable_at, asks_still, serves_still, absent_at, found_at, serves_write}
+use Rattle.arena_chunks.proofs.RunLemmas.Serving.{readable_at, asks_still, serves_still, absent_at, found_at, serves_write}
 use Rattle.arena_chunks.proofs.runs.serve.serve_write.Goals as goal
 use Rattle.arena_chunks.proofs.runs.serve.serve_write.Goals.{then-len-place-via-then-len-place, then-len-place-via-else-len-place+then-at-place}
 

@@ -7,14 +7,14 @@ use Rattle.arena_clone.proofs.slices.BoxSliceCloneIn.copy_of.Goals as goal
 
 pub overflow_mul-self : goal.overflow_mul-self
 overflow_mul-self g c =
-    let few = readable_size c.arena.result.now.memory.state c.args.self.now.block c.min_align.ensures.valid
+    let few = readable_size c.arena.result.now.memory.state c.args.self.now.block c.known.ensures.valid
     (rw c.arena.ensures c.requires.held.0.readable) in
     rw (c.SIZE.ensures) (omega (arith, few, c.requires.held.0.of_size))
 
 pub place-requires : goal.place-requires
 place-requires g c =
     rw (c.SIZE.ensures, c.ALIGN.ensures, ← c.requires.held.0.of_size)
-    (readable_layout c.arena.result.now.memory.state c.args.self.now.block g.T.Item.ALIGN c.min_align.ensures.valid
+    (readable_layout c.arena.result.now.memory.state c.args.self.now.block g.T.Item.ALIGN c.known.ensures.valid
     g.met.T.Item.layout.is_align (rw c.arena.ensures c.requires.held.0.readable))
 
 pub returns-in_err-target : goal.returns-in_err-target

@@ -6,7 +6,7 @@ use Rattle.arena_clone.proofs.texts.StrCloneIn.copy_of.Goals as goal
 
 pub place_copy-requires-clause-fits : goal.place_copy-requires-clause-fits
 place_copy-requires-clause-fits g c =
-    readable_layout c.arena.result.now.memory.state c.args.self.now.block 1 c.min_align.ensures.valid one (rw c.arena.ensures c.requires.held)
+    readable_layout c.arena.result.now.memory.state c.args.self.now.block 1 c.known.ensures.valid one (rw c.arena.ensures c.requires.held)
 
 pub returns-in_err-block : goal.returns-in_err-block
 returns-in_err-block g c =

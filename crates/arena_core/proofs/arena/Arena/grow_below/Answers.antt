@@ -6,7 +6,7 @@ use Rattle.arena_rules.proofs.CursorLemmas.{start_set, cursor_set}
 use Rattle.arena_store.specs.Memory.{Memory}
 use Rattle.arena_core.proofs.StoredLemmas.{view_with, place_stored, cursor_moved, cursor_view}
 use Rattle.arena_core.proofs.AllocationLemmas.{place_cursor}
-use Rattle.arena_core.proofs.ResizeSteps.{IsHere, grows_full, grows_down}
+use Rattle.arena_rules.proofs.ResizeSteps.{IsHere, grows_full, grows_down}
 use Rattle.arena_core.proofs.ResizedLemmas.{block_in}
 use Rattle.arena_core.proofs.CursorMoveLemmas.{is_grown, grown_used, grown_answer}
 use Rattle.arena_core.proofs.arena.Arena.grow_below.Goals as goal

@@ -7,7 +7,7 @@ use Rattle.arena_store.specs.Memory.{Memory}
 use Rattle.arena_rules.proofs.CursorLemmas.{start_set}
 use Rattle.arena_core.proofs.StoredLemmas.{cursor_stored, place_ready, cursor_moved, cursor_view}
 use Rattle.arena_core.proofs.AllocationLemmas.{place_cursor}
-use Rattle.arena_core.proofs.ResizeSteps.{grows_anew, IsHere, grows_down, grows_not}
+use Rattle.arena_rules.proofs.ResizeSteps.{grows_by_alloc, IsHere, grows_down, grows_not}
 use Rattle.arena_core.proofs.ResizedLemmas.{resized_not}
 use Rattle.arena_core.proofs.CursorMoveLemmas.{is_grown, grown_used, grown_answer}
 use Rattle.arena_core.proofs.arena.Arena.grow_counted.Goals as goal
@@ -22,7 +22,7 @@ returns-then-block-layout g c =
           inr (λ same. w.if-block-self.true (same ∙ sym
           (cursor_stored g.row.MIN_ALIGN c.self.inside c.args.self.now c.self.invariant c.self.view_is)))
     ] in
-    let way = grows_anew c.args.self.now.state c.args.block.addr c.args.block.size c.args.block.align c.args.layout.size c.args.layout.align
+    let way = grows_by_alloc c.args.self.now.state c.args.block.addr c.args.block.size c.args.block.align c.args.layout.size c.args.layout.align
     away in
     rw (c.slow_block.ensures, way) c.copy_to_new-slow.ensures
 

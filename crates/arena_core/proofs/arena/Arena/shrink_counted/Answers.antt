@@ -1,4 +1,4 @@
-use Rattle.arena_core.proofs.ResizeSteps.{shrinks_aligned, shrinks_anew}
+use Rattle.arena_rules.proofs.ResizeSteps.{shrinks_aligned, shrinks_by_alloc}
 use Rattle.arena_core.proofs.ResizedLemmas.{resized_unasked, shrunk_aligned}
 use Rattle.arena_core.proofs.CursorMoveLemmas.{shrunk_still}
 use Rattle.arena_core.proofs.arena.Arena.shrink_counted.Goals as goal
@@ -22,6 +22,6 @@ returns-then-is_aligned_to-clause-shrunk g c =
 
 pub returns-clause-shrunk : goal.returns-clause-shrunk
 returns-clause-shrunk g c =
-    let way = shrinks_anew c.args.self.now.state c.args.block.addr c.args.block.size c.args.block.align c.args.layout.size
+    let way = shrinks_by_alloc c.args.self.now.state c.args.block.addr c.args.block.size c.args.block.align c.args.layout.size
     c.args.layout.align c.if-layout-block.false (λ aligned. let never = c.if-is_aligned_to.ensures.1 aligned in cc) in
     rw (c.slow_block.ensures, way) c.copy_to_new-slow.ensures

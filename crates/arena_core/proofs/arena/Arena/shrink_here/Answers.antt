@@ -4,7 +4,7 @@ use Rattle.arena_rules.proofs.RoundingLemmas.{max_power, min_align_power, layout
 use Rattle.arena_store.specs.Memory.{Memory}
 use Rattle.arena_core.proofs.StoredLemmas.{cursor_stored}
 use Rattle.arena_core.proofs.StoredListLemmas.{readable_part}
-use Rattle.arena_core.proofs.ResizeSteps.{shrinks_still, shrinks_up}
+use Rattle.arena_rules.proofs.ResizeSteps.{shrinks_still, shrinks_up}
 use Rattle.arena_core.proofs.CursorMoveLemmas.{is_shrunk, shrunk, shrunk_still, shrunk_up}
 use Rattle.arena_core.proofs.arena.Arena.shrink_here.Goals as goal
 

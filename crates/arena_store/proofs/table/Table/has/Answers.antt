@@ -1,11 +1,12 @@
 use Rattle.std.proofs.Common.{◌<◌, ◌≤◌, ap, arith, ◌∙◌, sym, take_all, get_or, length}
 use Rattle.std.specs.List.{list_any}
+use Rattle.std.proofs.lemmas.List.Folds.{list_any_at}
 use Rattle.arena_rules.specs.State.{is_used_by}
 use Rattle.arena_store.specs.Chunks.{Chunks}
 use Rattle.arena_store.specs.Stored.{stored_chunk}
 use Rattle.arena_store.specs.declared.chunk.StoredChunk.{StoredChunk}
 use Rattle.arena_store.specs.Table.{chunk_of}
-use Rattle.arena_store.proofs.KeptLemmas.{chunks_length, item_at, any_found, none_more, nothing}
+use Rattle.arena_store.proofs.KeptLemmas.{chunks_length, item_at, none_more, nothing}
 use Rattle.arena_store.proofs.table.Table.has.Goals as goal
 
 pub chunk_has-requires-clause-index : goal.chunk_has-requires-clause-index
@@ -31,7 +32,7 @@ returns-then-chunk_has c =
       chunks_length c.self.inside.bases.items c.self.inside.kept.items c.self.invariant.pairs,
     ) in
     let d = get_or items c.loop-i.i (chunk_of 0 nothing) in
-    sym (any_found (λ (x : StoredChunk). is_used_by c.args.block.addr c.args.block.size (stored_chunk x)) items c.loop-i.i d below
+    sym (list_any_at (λ (x : StoredChunk). is_used_by c.args.block.addr c.args.block.size (stored_chunk x)) items c.loop-i.i d below
     (ap (λ (x : StoredChunk). is_used_by c.args.block.addr c.args.block.size (stored_chunk x))
     (sym (item_at items c.loop-i.i (chunk_of 0 nothing) below))
     ∙ sym (c.chunk_has.ensures d (item_at items c.loop-i.i (chunk_of 0 nothing) below)) ∙ c.if-chunk_has.true))

@@ -13,7 +13,7 @@ returns-in_err-push g c =
     let paid : Paid = record { keeps = c.growth_costs.ensures.keeps; asks = c.growth_costs.ensures.asks } in
     let grows = rw c.len-n.ensures at c.in_err-push.ensures in
     let p = err_from_is_err_and c.from_residual.result c.from_residual.ensures.1 in
-    rw (p.1, p.2) (enters paid c.args.a.now _ _ c.requires few c.min_align.ensures.state c.len-n.ensures _
+    rw (p.1, p.2) (enters paid c.args.a.now _ _ c.requires few c.known.ensures.state c.len-n.ensures _
     (c.vector_costs.ensures.fits _ _ _ _ _ _ _ (omega (arith, few)) (omega (arith, few)) grows) grows)
 
 pub returns : goal.returns
@@ -21,5 +21,5 @@ returns g c =
     let few : c.args.self.now.starts.raw.len < 2 ^ 29 - 1 = omega (arith, c.len.ensures, c.if-len.false) in
     let paid : Paid = record { keeps = c.growth_costs.ensures.keeps; asks = c.growth_costs.ensures.asks } in
     let grows = rw c.len-n.ensures at c.in_ok-push.ensures in
-    enters paid c.args.a.now _ _ c.requires few c.min_align.ensures.state c.len-n.ensures _
+    enters paid c.args.a.now _ _ c.requires few c.known.ensures.state c.len-n.ensures _
     (c.vector_costs.ensures.fits _ _ _ _ _ _ _ (omega (arith, few)) (omega (arith, few)) grows) grows

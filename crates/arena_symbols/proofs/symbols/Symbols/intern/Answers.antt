@@ -11,13 +11,13 @@ pub returns-in_err-placed : goal.returns-in_err-placed
 returns-in_err-placed g c =
     let p = err_from_is_err_and c.from_residual.result c.from_residual.ensures.1 in
     rw (p.1, p.2) (interns_unplaced _ _ _ c.requires.held (sym c.search-known.ensures.number ∙ c.in_default.is)
-    (omega (arith, c.len.ensures, c.if-len-ge-MOST_TEXTS.false)) c.min_align.ensures.state c.requires.length _ _
+    (omega (arith, c.len.ensures, c.if-len-ge-MOST_TEXTS.false)) c.known.ensures.state c.requires.length _ _
     c.in_err-placed.ensures.placed)
 
 pub put_listed-requires-clause-can : goal.put_listed-requires-clause-can
 put_listed-requires-clause-can g c =
     can_list _ _ _ c.requires.held (sym c.search-known.ensures.number ∙ c.in_default.is)
-    (omega (arith, c.len.ensures, c.if-len-ge-MOST_TEXTS.false)) c.min_align.ensures.state c.requires.length _ _
+    (omega (arith, c.len.ensures, c.if-len-ge-MOST_TEXTS.false)) c.known.ensures.state c.requires.length _ _
     c.in_ok-placed.ensures.placed c.in_ok-placed.ensures.text
 
 pub put_listed-requires-clause-look : goal.put_listed-requires-clause-look
@@ -28,6 +28,6 @@ put_listed-requires-clause-look g c =
 pub returns : goal.returns
 returns g c =
     interns_placed _ _ _ c.requires.held (sym c.search-known.ensures.number ∙ c.in_default.is)
-    (omega (arith, c.len.ensures, c.if-len-ge-MOST_TEXTS.false)) c.min_align.ensures.state c.requires.length _ _
+    (omega (arith, c.len.ensures, c.if-len-ge-MOST_TEXTS.false)) c.known.ensures.state c.requires.length _ _
     c.in_ok-placed.ensures.placed c.in_ok-placed.ensures.text _ _ _ _ (λ memory m held b. c.texts_law.ensures.texts memory m b held)
     c.put_listed.ensures

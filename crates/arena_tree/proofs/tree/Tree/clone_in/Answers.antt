@@ -5,8 +5,8 @@ use Rattle.arena_tree.proofs.CloneCostLemmas.{spends_tree}
 use Rattle.arena_tree.proofs.FoldTreeLemmas.{given_row}
 use Rattle.arena_tree.proofs.GivenLemmas.{built_given}
 use Rattle.arena_tree.proofs.ParseLemmas.{spends_takes, short}
-use Rattle.arena_tree.proofs.RowLemmas.{stmts_built}
-use Rattle.arena_tree.proofs.SubtreeLemmas.{stmt_row_at}
+use Rattle.tree_nodes.proofs.RowLemmas.{stmts_built}
+use Rattle.tree_nodes.proofs.SubtreeLemmas.{stmt_row_at}
 use Rattle.arena_tree.proofs.tree.Tree.clone_in.Goals as goal
 
 pub clone_row-requires : goal.clone_row-requires

@@ -3,7 +3,7 @@ use Rattle.arena_tree.specs.Parsing.{Parses, parse_bytes}
 use Rattle.arena_tree.proofs.GivenLemmas.{built_given}
 use Rattle.arena_tree.proofs.LineLemmas.{all_read}
 use Rattle.arena_tree.specs.Layouts.{AskedFor}
-use Rattle.arena_tree.proofs.SpendingLemmas.{spends_nothing}
+use Rattle.tree_nodes.proofs.SpendingLemmas.{spends_nothing}
 use Rattle.arena_tree.proofs.ParseLemmas.{refused_parses, spends_takes, short}
 use Rattle.arena_tree.proofs.tree.Tree.parse.Goals as goal
 

@@ -1,6 +1,9 @@
-use Rattle.std.proofs.Common.{◌≡◌, [], ◌∷◌, arith, length-append}
+use Rattle.std.proofs.Common.{[], ◌∷◌, arith, length-append}
 use Rattle.arena.specs.Vecs.{vec_list}
 use Rattle.example_language.specs.Nodes.{node_item}
+use Rattle.example_language.specs.Parsing.{NodeRefused}
+use Rattle.example_language.proofs.CountLemmas.{list_counts}
+use Rattle.example_language.proofs.RefusalLemmas.{error_kept}
 use Rattle.example_language.proofs.TreeLemmas.{list_length, one_node, same_nodes, nodes_moved}
 use Rattle.example_language.proofs.trees.Tree.add_node.Goals as goal
 
@@ -11,7 +14,8 @@ returns-in_err-push-clause-moves g c =
     let push = c.in_err-push.ensures in
     let stays = c.frame_law.ensures _ _ (tree.nodes.raw.block ∷ []) (c.push.new.self.raw.block ∷ []) tree.names
     push.frame held.names held.apart in
-    nodes_moved tree (same_nodes push.err.0 push.err.1 held.nodes) push.frame stays.held stays.footprint stays.apart
+    nodes_moved c.args.a.now c.push.new.a tree (same_nodes push.err.0 push.err.1 held.nodes) push.frame stays.held stays.footprint stays.apart
+    (list_counts 12 4 _ _ _ _ _ _ _ _ push.made)
 
 pub returns-clause-moves : goal.returns-clause-moves
 returns-clause-moves g c =
@@ -20,8 +24,9 @@ returns-clause-moves g c =
     let push = c.in_ok-push.ensures in
     let stays = c.frame_law.ensures _ _ (tree.nodes.raw.block ∷ []) (c.push.new.self.raw.block ∷ []) tree.names
     push.frame held.names held.apart in
-    nodes_moved tree (one_node _ held.nodes c.requires.node push.held push.list_is) push.frame
+    nodes_moved c.args.a.now c.push.new.a tree (one_node _ held.nodes c.requires.node push.held push.list_is) push.frame
     stays.held stays.footprint stays.apart
+    (list_counts 12 4 _ _ _ _ _ _ _ _ push.made)
 
 pub returns-clause-len : goal.returns-clause-len
 returns-clause-len g c =
@@ -32,3 +37,17 @@ returns-clause-len g c =
       length-append list (c.args.node ∷ []),
       list_length c.args.a.now.memory c.args.self.now.nodes,
     )
+
+pub returns-clause-rows : goal.returns-clause-rows
+returns-clause-rows g c =
+    let tree = c.args.self.now in
+    let held = c.requires.held in
+    let push = c.in_ok-push.ensures in
+    let stays = c.frame_law.ensures _ _ (tree.nodes.raw.block ∷ []) (c.push.new.self.raw.block ∷ []) tree.names
+    push.frame held.names held.apart in
+    λ i. record { names = stays.means i; nodes = push.list_is i }
+
+pub returns-in_err-push-clause-refused : goal.returns-in_err-push-clause-refused
+returns-in_err-push-clause-refused g c =
+    error_kept (NodeRefused c.args.a.now c.push.new.a c.args.self.now c.args.node) _ c.from_residual.result c.from_residual.ensures
+    (c.push.new.self, c.in_err-push.ensures)

@@ -1,5 +1,5 @@
-use Rattle.script_rules.proofs.TableLemmas.{entries_none}
+use Rattle.script_rules.proofs.TableLemmas.{no_entries}
 use Rattle.script_rules.proofs.names.Names.new.Goals as goal
 
 pub returns : goal.returns
-returns g c = entries_none c.new.result.entries c.new.ensures.empty
+returns g c = rw c.new.ensures no_entries

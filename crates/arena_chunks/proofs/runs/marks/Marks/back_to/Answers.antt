@@ -3,9 +3,9 @@ use Rattle.std.specs.Prelude.{◌==◌}
 use Rattle.std.specs.Option.{is_some}
 use Rattle.std.proofs.lemmas.List.{get_or_read, get_or-take}
 use Rattle.call_rules.specs.Machine.{mark_named}
-use Rattle.arena_chunks.specs.Marks.{Noted, named, marks_from}
+use Rattle.arena_chunks.specs.Runs.Marks.{Noted, named, marks_from}
 use Rattle.arena_chunks.specs.declared.runs.marks.Mark.{Mark}
-use Rattle.arena_chunks.proofs.KnownLemmas.{ending_first, ending_next, ending_over, newest_first}
+use Rattle.arena_chunks.proofs.RunLemmas.Known.{ending_first, ending_next, ending_over, newest_first}
 use Rattle.arena_chunks.proofs.runs.marks.Marks.back_to.Goals as goal
 
 pub loop-count-init : goal.loop-count-init

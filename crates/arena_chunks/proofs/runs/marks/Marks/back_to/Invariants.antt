@@ -1,5 +1,5 @@
 use Rattle.std.proofs.Common.{◌≡◌}
-use Rattle.arena_chunks.proofs.KnownLemmas.{IsEnding}
+use Rattle.arena_chunks.proofs.RunLemmas.Known.{IsEnding}
 use Rattle.arena_chunks.proofs.runs.marks.Marks.back_to.Given as goal
 
 abbrev pub invariant-loop-count : goal.invariant-loop-count

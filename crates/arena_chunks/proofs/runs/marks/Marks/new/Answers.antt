@@ -1,4 +1,4 @@
-use Rattle.arena_chunks.proofs.KnownLemmas.{knows_none}
+use Rattle.arena_chunks.proofs.RunLemmas.Known.{knows_none}
 use Rattle.arena_chunks.proofs.runs.marks.Marks.new.Goals as goal
 
 pub invariant_of-result : goal.invariant_of-result

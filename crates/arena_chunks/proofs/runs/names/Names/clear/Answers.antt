@@ -1,5 +1,5 @@
 use Rattle.std.proofs.Common.{arith}
-use Rattle.arena_chunks.proofs.FirstNameLemmas.{none_below, void_below, void_holds}
+use Rattle.arena_chunks.proofs.RunLemmas.FirstNames.{none_below, void_below, void_holds}
 use Rattle.arena_chunks.proofs.runs.names.Names.clear.Goals as goal
 
 pub invariant_of-self : goal.invariant_of-self

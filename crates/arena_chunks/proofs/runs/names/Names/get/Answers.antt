@@ -1,5 +1,5 @@
 use Rattle.std.proofs.Common.{◌∙◌, arith}
-use Rattle.arena_chunks.proofs.FirstNameLemmas.{get_first, get_other}
+use Rattle.arena_chunks.proofs.RunLemmas.FirstNames.{get_first, get_other}
 use Rattle.arena_chunks.proofs.runs.names.Names.get.Goals as goal
 
 pub returns-then-at-len : goal.returns-then-at-len

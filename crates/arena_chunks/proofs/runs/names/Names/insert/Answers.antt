@@ -1,5 +1,5 @@
 use Rattle.std.proofs.Common.{arith, length}
-use Rattle.arena_chunks.proofs.FirstNameLemmas.{get_other, insert_first, insert_other, none_inserted}
+use Rattle.arena_chunks.proofs.RunLemmas.FirstNames.{get_other, insert_first, insert_other, none_inserted}
 use Rattle.arena_chunks.proofs.runs.names.Names.insert.Goals as goal
 
 pub returns-then-at-len-clause-ok : goal.returns-then-at-len-clause-ok

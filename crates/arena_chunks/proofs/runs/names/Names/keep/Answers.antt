@@ -1,7 +1,7 @@
 use Rattle.std.proofs.Common.{◌≡◌, sym, ◌∙◌, refl, eq-eqb}
 use Rattle.call_rules.specs.Machine.{is_left}
-use Rattle.arena_chunks.proofs.HeldLemmas.{remove_absent}
-use Rattle.arena_chunks.proofs.LogLemmas.{not_both, not_standing, standing}
+use Rattle.call_rules.proofs.HeldLemmas.{remove_absent}
+use Rattle.arena_chunks.proofs.RunLemmas.Log.{not_both, not_standing, standing}
 use Rattle.arena_chunks.proofs.runs.names.Names.keep.Goals as goal
 
 pub returns-in_default-clause-answer : goal.returns-in_default-clause-answer

@@ -1,5 +1,5 @@
 use Rattle.std.proofs.Common.{◌≡◌, length}
-use Rattle.arena_chunks.proofs.FirstNameLemmas.{IsVoid}
+use Rattle.arena_chunks.proofs.RunLemmas.FirstNames.{IsVoid}
 use Rattle.arena_chunks.proofs.runs.names.Names.new.Given as goal
 
 abbrev pub invariant-loop : goal.invariant-loop

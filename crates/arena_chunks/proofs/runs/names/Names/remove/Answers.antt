@@ -1,5 +1,5 @@
 use Rattle.std.proofs.Common.{◌∙◌, arith, length}
-use Rattle.arena_chunks.proofs.FirstNameLemmas.{get_first, get_other, remove_first, remove_other, none_removed}
+use Rattle.arena_chunks.proofs.RunLemmas.FirstNames.{get_first, get_other, remove_first, remove_other, none_removed}
 use Rattle.arena_chunks.proofs.runs.names.Names.remove.Goals as goal
 
 pub returns-then-at-len-clause-place : goal.returns-then-at-len-clause-place

@@ -2,8 +2,8 @@ use Rattle.std.proofs.Common.{◌≡◌, ℕ, ◌+◌, ◌-◌, ap, sym, ◌∙�
 use Rattle.std.specs.FinMap as map
 use Rattle.call_rules.specs.Machine.{Held}
 use Rattle.call_rules.proofs.MapLemmas.{tree_insert}
-use Rattle.arena_chunks.specs.Names.{held_with}
-use Rattle.arena_chunks.proofs.FirstNameLemmas.{with_some}
+use Rattle.arena_chunks.specs.Runs.Names.{held_with}
+use Rattle.arena_chunks.proofs.RunLemmas.FirstNames.{with_some}
 use Rattle.arena_chunks.proofs.runs.names.Names.sorted.Goals as goal
 
 pub loop-at-preserved-in_ok-insert : goal.loop-at-preserved-in_ok-insert

@@ -1,7 +1,7 @@
 use Rattle.std.proofs.Common.{◌≡◌, ◌≤◌, length, drop}
 use Rattle.std.specs.Ordering.{nat_cmp}
 use Rattle.std.specs.FinMap as map
-use Rattle.arena_chunks.specs.Names.{held_with}
+use Rattle.arena_chunks.specs.Runs.Names.{held_with}
 use Rattle.arena_chunks.proofs.runs.names.Names.sorted.Given as goal
 
 abbrev pub invariant-loop-at : goal.invariant-loop-at

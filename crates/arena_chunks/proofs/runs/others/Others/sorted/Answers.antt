@@ -2,7 +2,7 @@ use Rattle.std.proofs.Common.{ℕ, List, None, ap, ◌∙◌}
 use Rattle.std.specs.Ordering.{nat_cmp, eq_by_cmp}
 use Rattle.std.specs.Map.{update_all}
 use Rattle.arena_rules.specs.declared.place.Place.{Place}
-use Rattle.arena_chunks.proofs.NameLemmas.{copied_tree}
+use Rattle.arena_chunks.proofs.RunLemmas.Trees.{copied_tree}
 use Rattle.arena_chunks.proofs.runs.others.Others.sorted.Goals as goal
 
 pub returns : goal.returns

@@ -1,5 +1,5 @@
 use Rattle.arena_core.proofs.AnswerLemmas.{on_err}
-use Rattle.arena_chunks.proofs.RunLemmas.{running_over, stays_behind}
+use Rattle.arena_chunks.proofs.RunLemmas.Running.{running_over, stays_behind}
 use Rattle.arena_chunks.proofs.runs.run.Run.held.Goals as goal
 
 pub returns-clause-ok : goal.returns-clause-ok

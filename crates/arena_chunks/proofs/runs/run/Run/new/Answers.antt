@@ -1,4 +1,4 @@
-use Rattle.arena_chunks.proofs.RunLemmas.{running_first}
+use Rattle.arena_chunks.proofs.RunLemmas.Running.{running_first}
 use Rattle.arena_chunks.proofs.runs.run.Run.new.Goals as goal
 
 pub returns : goal.returns

@@ -1,5 +1,5 @@
 use Rattle.arena_core.proofs.AnswerLemmas.{on_err}
-use Rattle.arena_chunks.proofs.RunLemmas.{running_more, stays_at}
+use Rattle.arena_chunks.proofs.RunLemmas.Running.{running_more, stays_at}
 use Rattle.arena_chunks.proofs.runs.run.Run.serve.Goals as goal
 
 pub returns-clause-serves : goal.returns-clause-serves

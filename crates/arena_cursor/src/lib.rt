@@ -1,0 +1,203 @@
+//! The arena's rules of places for memory that isn't the arena's: a cursor between two addresses of a program in C.
+//!
+//! The functions compute addresses. None of them reads or writes the memory, or takes any. Every function takes any
+//! numbers, and returns a code; it changes something only if that is 0. `CALLING.md` has the codes.
+#![tactic(auto)]
+
+ghost use Rattle.std.specs.Prelude.{◌≡◌, ◌≢◌, ◌+◌, ◌%◌, ◌≤◌, ◌&&◌, IsTrue, false, true, Some, None, nat_le};
+ghost use Rattle.arena_rules.specs.Rounding.{is_layout};
+ghost use Rattle.arena_rules.specs.Search.{place_below};
+ghost use Rattle.arena_rules.specs.Moves.{dealloc, grow, shrink};
+ghost use Rattle.arena_cursor.specs.Steps.{is_valid, is_in_use, is_mark, arena_of, answer_of, IsCode, IsStep, IsResized};
+
+mod cursor;
+#[cfg(test)]
+mod tests;
+
+use arena_place::Layout;
+pub use cursor::Cursor;
+
+// The rule gives an address, which is returned.
+const DONE: u32 = 0;
+
+// The rule has no place.
+const NO_PLACE: u32 = 1;
+
+// A size and an alignment are no layout.
+const BAD_LAYOUT: u32 = 2;
+
+// The three numbers of the cursor are in no order, or it starts at 0.
+const BAD_CURSOR: u32 = 3;
+
+// A block or a mark isn't in use, or a size is on the wrong side of the old one.
+const OUT_OF_RANGE: u32 = 4;
+
+/// Places a block of this size and alignment, in bytes, below the cursor, and writes its address to `addr`, by the rule
+/// `place_below` with a least alignment of 1.
+///
+/// Returns 0; 1 if there is no place; 2 if size and alignment are no layout; 3 for a cursor that isn't valid.
+#[unsafe(no_mangle)]
+pub extern "C" fn arena_cursor_place(at: &mut Cursor, size: u64, align: u64, addr: &mut u64) -> u32
+    ensures bad_cursor { is_valid at.old ≡ false → result ≡ 3 }
+    ensures no_layout { is_valid at.old ≡ true → is_layout size align ≡ false → result ≡ 2 }
+    ensures no_place { is_valid at.old ≡ true → is_layout size align ≡ true
+        → place_below at.old.start at.old.cursor size align 1 ≡ None → result ≡ 1 }
+    ensures some_place { is_valid at.old ≡ true → is_layout size align ≡ true
+        → place_below at.old.start at.old.cursor size align 1 ≢ None → result ≡ 0 }
+    ensures placed { result ≡ 0 → place_below at.old.start at.old.cursor size align 1 ≡ Some addr.new }
+    ensures moved { result ≡ 0 → at.new ≡ record at.old { cursor = addr.new } }
+    ensures aligned { result ≡ 0 → addr.new % align ≡ 0 }
+    ensures low { result ≡ 0 → at.old.start ≤ addr.new }
+    ensures high { result ≡ 0 → addr.new + size ≤ at.old.cursor }
+    ensures same { result ≢ 0 → at.new ≡ at.old }
+    ensures kept { result ≢ 0 → addr.new ≡ addr.old }
+{
+    if !at.is_valid() {
+        return BAD_CURSOR;
+    }
+    let Some(layout) = Layout::new(size, align) else {
+        return BAD_LAYOUT;
+    };
+    match at.alloc(layout) {
+        Some(p) => {
+            *addr = p;
+            DONE
+        }
+        None => NO_PLACE,
+    }
+}
+
+/// Gives the block of this size, in bytes, at `addr` back, by the rule `dealloc`: the cursor moves only if the block is
+/// at it.
+///
+/// Returns 0; 3 for a cursor that isn't valid; 4 if the block isn't in use.
+#[unsafe(no_mangle)]
+pub extern "C" fn arena_cursor_give_back(at: &mut Cursor, addr: u64, size: u64) -> u32
+    ensures bad_cursor { is_valid at.old ≡ false → result ≡ 3 }
+    ensures no_block { is_valid at.old ≡ true → is_in_use at.old addr size ≡ false → result ≡ 4 }
+    ensures done { is_valid at.old ≡ true → is_in_use at.old addr size ≡ true → result ≡ 0 }
+    ensures step { result ≡ 0 → arena_of at.new ≡ dealloc (arena_of at.old) addr size }
+    ensures ends { (at.new.start ≡ at.old.start) × (at.new.end ≡ at.old.end) }
+    ensures valid { IsTrue (is_valid at.old) → IsTrue (is_valid at.new) }
+    ensures same { result ≢ 0 → at.new ≡ at.old }
+{
+    if !at.is_valid() {
+        return BAD_CURSOR;
+    }
+    if !at.is_in_use(addr, size) {
+        return OUT_OF_RANGE;
+    }
+    at.dealloc(addr, size);
+    DONE
+}
+
+/// Grows the block at `addr` to `new_size` bytes, by the rule `grow`, and writes its new address there. If that differs,
+/// the caller moves the block's bytes. The new block may overlap the old one.
+///
+/// Returns 0; 1 if there is no place; 2 if a size and its alignment are no layout; 3 for a cursor that isn't valid; 4 if
+/// the block isn't in use or the new size is smaller. Of several, 3 comes first, then 2.
+#[unsafe(no_mangle)]
+pub extern "C" fn arena_cursor_grow(
+    at: &mut Cursor,
+    addr: &mut u64,
+    size: u64,
+    align: u64,
+    new_size: u64,
+    new_align: u64,
+) -> u32
+    ensures code { IsCode (is_valid at.old) (is_layout size align && is_layout new_size new_align)
+        (is_in_use at.old addr.old size && nat_le size new_size) result }
+    ensures step { result ≤ 1 → IsStep
+        (grow (arena_of at.old) addr.old size align new_size new_align 0) at.old at.new (answer_of result addr.new) }
+    ensures resized { result ≡ 0 → IsResized at.old at.new addr.old size addr.new new_size }
+    ensures aligned { result ≡ 0 → addr.old % align ≡ 0 → addr.new % new_align ≡ 0 }
+    ensures valid { IsTrue (is_valid at.old) → IsTrue (is_valid at.new) }
+    ensures same { result ≢ 0 → at.new ≡ at.old }
+    ensures kept { result ≢ 0 → addr.new ≡ addr.old }
+{
+    if !at.is_valid() {
+        return BAD_CURSOR;
+    }
+    let Some(from) = Layout::new(size, align) else {
+        return BAD_LAYOUT;
+    };
+    let Some(to) = Layout::new(new_size, new_align) else {
+        return BAD_LAYOUT;
+    };
+    if !at.is_in_use(*addr, size) || new_size < size {
+        return OUT_OF_RANGE;
+    }
+    match at.grow(*addr, from, to) {
+        Some(p) => {
+            *addr = p;
+            DONE
+        }
+        None => NO_PLACE,
+    }
+}
+
+/// Shrinks the block at `addr` to `new_size` bytes, by the rule `shrink`, and writes its new address there. If that
+/// differs, the caller moves the block's first `new_size` bytes. The new block may overlap the old one.
+///
+/// Returns the codes of `arena_cursor_grow`, with 4 where the new size is greater.
+#[unsafe(no_mangle)]
+pub extern "C" fn arena_cursor_shrink(
+    at: &mut Cursor,
+    addr: &mut u64,
+    size: u64,
+    align: u64,
+    new_size: u64,
+    new_align: u64,
+) -> u32
+    ensures code { IsCode (is_valid at.old) (is_layout size align && is_layout new_size new_align)
+        (is_in_use at.old addr.old size && nat_le new_size size) result }
+    ensures step { result ≤ 1 → IsStep
+        (shrink (arena_of at.old) addr.old size align new_size new_align 0) at.old at.new (answer_of result addr.new) }
+    ensures resized { result ≡ 0 → IsResized at.old at.new addr.old size addr.new new_size }
+    ensures aligned { result ≡ 0 → addr.old % align ≡ 0 → addr.new % new_align ≡ 0 }
+    ensures valid { IsTrue (is_valid at.old) → IsTrue (is_valid at.new) }
+    ensures same { result ≢ 0 → at.new ≡ at.old }
+    ensures kept { result ≢ 0 → addr.new ≡ addr.old }
+{
+    if !at.is_valid() {
+        return BAD_CURSOR;
+    }
+    let Some(from) = Layout::new(size, align) else {
+        return BAD_LAYOUT;
+    };
+    let Some(to) = Layout::new(new_size, new_align) else {
+        return BAD_LAYOUT;
+    };
+    if !at.is_in_use(*addr, size) || size < new_size {
+        return OUT_OF_RANGE;
+    }
+    match at.shrink(*addr, from, to) {
+        Some(p) => {
+            *addr = p;
+            DONE
+        }
+        None => NO_PLACE,
+    }
+}
+
+/// Moves the cursor back up to `mark`, an address at which it was: what was placed since is given back.
+///
+/// Returns 0; 3 for a cursor that isn't valid; 4 if the mark is below the cursor or past the end.
+#[unsafe(no_mangle)]
+pub extern "C" fn arena_cursor_back(at: &mut Cursor, mark: u64) -> u32
+    ensures bad_cursor { is_valid at.old ≡ false → result ≡ 3 }
+    ensures no_mark { is_valid at.old ≡ true → is_mark at.old mark ≡ false → result ≡ 4 }
+    ensures done { is_valid at.old ≡ true → is_mark at.old mark ≡ true → result ≡ 0 }
+    ensures back { result ≡ 0 → at.new ≡ record at.old { cursor = mark } }
+    ensures valid { IsTrue (is_valid at.old) → IsTrue (is_valid at.new) }
+    ensures same { result ≢ 0 → at.new ≡ at.old }
+{
+    if !at.is_valid() {
+        return BAD_CURSOR;
+    }
+    if !at.is_mark(mark) {
+        return OUT_OF_RANGE;
+    }
+    at.cursor = mark;
+    DONE
+}

@@ -1,6 +1,0 @@
-use Rattle.std.proofs.Common.{◌≡◌, drop}
-use Rattle.arena_picture.specs.Shapes.{place_from}
-use Rattle.arena_picture.proofs.shapes.place_of.Given as goal
-
-abbrev pub invariant-loop-i : goal.invariant-loop-i
-invariant-loop-i l = place_from l.i (drop l.i l.chunks) l.block ≡ place_from 0 l.chunks l.block

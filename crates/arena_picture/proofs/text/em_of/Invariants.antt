@@ -1,7 +1,0 @@
-use Rattle.std.proofs.Common.{◌≡◌, drop}
-use Rattle.std.specs.Prelude.{max}
-use Rattle.arena_picture.specs.Text.{largest}
-use Rattle.arena_picture.proofs.text.em_of.Given as goal
-
-abbrev pub invariant-loop-chunk : goal.invariant-loop-chunk
-invariant-loop-chunk l = max l.largest (largest (drop l.chunk-index l.chunks)) ≡ largest l.chunks

@@ -1,0 +1,81 @@
+-- What becomes of a block that is resized, case by case.
+use Rattle.std.proofs.Common.{◌≡◌, ℕ, ◌+◌, ◌*◌, ◌%◌, ◌<◌, ◌≤◌, ◌⊎◌, inl, inr, refl, arith, true, false, Bool, Some, None, eq-eqb, ne_eqb}
+use Rattle.std.specs.Prelude.{nat_le, nat_lt, ◌==◌, ◌&&◌}
+use Rattle.std.proofs.lemmas.Bool.Decides.{nat_tests}
+use Rattle.arena_rules.specs.Rounding.{is_layout}
+use Rattle.arena_rules.specs.State.{State, cursor_of}
+use Rattle.arena_rules.specs.Search.{place}
+use Rattle.arena_rules.specs.Moves.{growth, growing, shrinking, shrink_step}
+use Rattle.arena_rules.specs.Moves.Resizing.{Stays, Moves, Anew, Refused}
+
+module _ (state : State) (p size align new_size new_align : ℕ) where
+  -- ---- Shrinking
+
+  -- if the alignment doesn't rise, away from the cursor or if little is freed, it stays
+  pub shrinks_still : new_align ≤ align → ((p ≡ cursor_of state.chunks → ⊥) ⊎ (2 * shrink_step state size new_size new_align < size))
+      → shrinking state p size align new_size new_align ≡ Stays
+  shrinks_still low still =
+      let lower : nat_lt align new_align ≡ false = grind (arith, nat_tests) in
+      let here : (p == cursor_of state.chunks && nat_le size (2 * shrink_step state size new_size new_align)) ≡ false = elim still [
+        | inl away ↦ rw (ne_eqb _ _ away) refl
+        | inr little ↦ grind (arith, nat_tests)
+      ] in
+      rw (lower, here) refl
+
+  -- at the cursor it moves up, if that frees at least half of it
+  pub shrinks_up : new_align ≤ align → p ≡ cursor_of state.chunks → size ≤ 2 * shrink_step state size new_size new_align
+      → shrinking state p size align new_size new_align ≡ Moves (p + shrink_step state size new_size new_align)
+  shrinks_up low at half =
+      let lower : nat_lt align new_align ≡ false = grind (arith, nat_tests) in
+      let much : nat_le size (2 * shrink_step state size new_size new_align) ≡ true = grind (arith, nat_tests) in
+      rw (lower, eq-eqb _ _ at, much) refl
+
+  -- to a greater alignment it stays if its address is a multiple of that, and otherwise is allocated again
+  pub shrinks_aligned : align < new_align → p % new_align ≡ 0 → shrinking state p size align new_size new_align ≡ Stays
+  shrinks_aligned high aligned =
+      let higher : nat_lt align new_align ≡ true = grind (arith, nat_tests) in
+      rw (higher, eq-eqb _ _ aligned) refl
+
+  pub shrinks_by_alloc : align < new_align → (p % new_align ≡ 0 → ⊥) → shrinking state p size align new_size new_align ≡ Anew
+  shrinks_by_alloc high apart =
+      let higher : nat_lt align new_align ≡ true = grind (arith, nat_tests) in
+      rw (higher, ne_eqb _ _ apart) refl
+
+  -- ---- Growing
+
+  -- away from the cursor, or to a greater alignment, it is allocated again
+  pub grows_by_alloc : (align < new_align) ⊎ (p ≡ cursor_of state.chunks → ⊥) → growing state p size align new_size new_align ≡ Anew
+  grows_by_alloc away =
+      let not_here : (nat_le new_align align && p == cursor_of state.chunks) ≡ false = elim away [
+        | inl high ↦ let higher : nat_le new_align align ≡ false = grind (arith, nat_tests) in rw higher refl
+        | inr other ↦ rw (ne_eqb _ _ other) (and_false (nat_le new_align align))
+      ] in
+      rw not_here refl
+    where
+      and_false : (b : Bool) → (b && false) ≡ false
+      and_false true = refl
+      and_false false = refl
+
+  -- the block is at the cursor, and its alignment doesn't rise
+  pub record IsHere : Type 0 where
+    pub low : new_align ≤ align
+    pub at : p ≡ cursor_of state.chunks
+
+  here_test : IsHere → (nat_le new_align align && p == cursor_of state.chunks) ≡ true
+  here_test is =
+      let low = is.low in
+      let lower : nat_le new_align align ≡ true = grind (arith, nat_tests) in
+      rw (lower, eq-eqb _ _ is.at) refl
+
+  -- there it is allocated again without room below it, moves down with room, or is refused if its growth is no layout
+  pub grows_full : IsHere → is_layout (growth state size new_size) align ≡ true → place state (growth state size new_size) align ≡ None
+      → growing state p size align new_size new_align ≡ Anew
+  grows_full is fine none = let here = here_test is in rw (here, fine, none) refl
+
+  pub grows_down : (q : ℕ) → IsHere → is_layout (growth state size new_size) align ≡ true
+      → place state (growth state size new_size) align ≡ Some q
+      → growing state p size align new_size new_align ≡ Moves q
+  grows_down q is fine found = let here = here_test is in rw (here, fine, found) refl
+
+  pub grows_not : IsHere → is_layout (growth state size new_size) align ≡ false → growing state p size align new_size new_align ≡ Refused
+  grows_not is large = let here = here_test is in rw (here, large) refl

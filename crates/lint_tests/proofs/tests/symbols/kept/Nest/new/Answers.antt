@@ -1,4 +1,0 @@
-use Rattle.lint_tests.proofs.tests.symbols.kept.Nest.new.Goals as goal
-
-pub invariant_of-result : goal.invariant_of-result
-invariant_of-result g c = c.new_in.ensures.held c.args.a.memory

@@ -1,0 +1,220 @@
+// Public items of books and pools.
+ghost use Rattle.std.specs.Prelude.{◌≡◌};
+
+use crate::kinds::is_error;
+use arena_chunks::{Allocator, ChunkSource, MemoryChunks, OutOfMemory};
+use arena_items::GetAllocator;
+use arena_pool::{
+    AllocatorGuard, AllocatorPool, Book, ChunkMaker, Counts, FixedSizeAllocatorMetadata,
+    FixedSizeAllocatorPool, Loan, MemoryMaker, PoolErr, PoolKind, PoolName, StandardAllocatorPool,
+};
+use std::alloc::Global;
+use std::sync::Wait;
+use std::sync::ledger::{Blank, Ledger};
+
+// A maker that implements only the required method.
+struct Maker {
+    alloc: Global,
+}
+
+impl ChunkMaker for Maker {
+    type Chunks = MemoryChunks;
+
+    fn make(&mut self) -> MemoryChunks {
+        MemoryChunks::new(self.alloc, 0)
+    }
+}
+
+fn makers() {
+    let _: fn(Global, u64) -> MemoryMaker = MemoryMaker::new;
+    let _: fn(&mut MemoryMaker) -> MemoryChunks = <MemoryMaker as ChunkMaker>::make;
+}
+
+fn refused(e: PoolErr) -> u32 {
+    is_error::<PoolErr>();
+    match e {
+        PoolErr::PoolEmpty => 1,
+        PoolErr::OutOfMemory => 2,
+        PoolErr::Limit => 3,
+    }
+}
+
+fn counted(counts: Counts) -> (u64, u64, u64, u64) {
+    (counts.made, counts.stored, counts.lent, counts.given_up)
+}
+
+fn book<K: ChunkMaker + Drop>(alloc: Global, maker: K) -> Result<Book<K>, OutOfMemory> {
+    Book::new(alloc, 1u32, maker)
+}
+
+fn book_with_limit<K: ChunkMaker + Drop>(alloc: Global, maker: K) -> Result<Book<K>, OutOfMemory> {
+    Book::new_with_limit(alloc, 1u32, 2u64, maker)
+}
+
+fn fixed_book<K: ChunkMaker + Drop>(alloc: Global, maker: K) -> Result<Book<K>, OutOfMemory> {
+    Book::new_fixed(alloc, 1u32, 48u64, maker)
+}
+
+fn taken<K: ChunkMaker>(
+    book: &mut Book<K>,
+) -> Result<(Allocator<K::Chunks>, Option<u32>), PoolErr> {
+    book.take()
+}
+
+fn stored<K: ChunkMaker>(book: &mut Book<K>, a: Allocator<K::Chunks>, id: Option<u32>) {
+    return;
+    let _: () = book.store(a, id);
+}
+
+fn numbers<K: ChunkMaker>(book: &mut Book<K>) {
+    return;
+    let _: () = book.forget();
+    let _: Option<u64> = book.limit();
+    let _: Counts = book.counts();
+}
+
+fn is_ledger<L: Ledger>() {}
+
+fn named<L: PoolName>() {
+    is_ledger::<L>();
+}
+
+fn pool<K: ChunkMaker + Drop, L: PoolName>(
+    alloc: Global,
+    maker: K,
+    blank: Blank,
+) -> Result<AllocatorPool<K, L>, OutOfMemory> {
+    return Err(OutOfMemory);
+    return AllocatorPool::new(alloc, 1u32, maker, blank);
+}
+
+fn with_limit<K: ChunkMaker + Drop, L: PoolName>(
+    alloc: Global,
+    maker: K,
+    blank: Blank,
+) -> Result<AllocatorPool<K, L>, OutOfMemory> {
+    return Err(OutOfMemory);
+    return AllocatorPool::new_with_limit(alloc, 1u32, 2u64, maker, blank);
+}
+
+fn fixed_size<K: ChunkMaker + Drop, L: PoolName>(
+    alloc: Global,
+    maker: K,
+    blank: Blank,
+) -> Result<AllocatorPool<K, L>, OutOfMemory> {
+    return Err(OutOfMemory);
+    return AllocatorPool::new_fixed_size(alloc, 1u32, 48u64, maker, blank);
+}
+
+fn of_kind<K: ChunkMaker + Drop, L: PoolName>(
+    alloc: Global,
+    maker: K,
+    blank: Blank,
+) -> Result<AllocatorPool<K, L>, OutOfMemory> {
+    return Err(OutOfMemory);
+    return AllocatorPool::of_kind(alloc, PoolKind::Standard, Some(2u64), 1u32, maker, blank);
+}
+
+fn guarded<'a, K: ChunkMaker, L: PoolName, R: Wait>(
+    pool: &'a AllocatorPool<K, L>,
+    rt: &R,
+) -> Result<AllocatorGuard<'a, K, L>, OutOfMemory> {
+    pool.get(rt)
+}
+
+fn waited<'a, K: ChunkMaker, L: PoolName, R: Wait>(
+    pool: &'a AllocatorPool<K, L>,
+    rt: &R,
+) -> Result<AllocatorGuard<'a, K, L>, OutOfMemory> {
+    pool.get_wait(rt)
+}
+
+fn counts<K: ChunkMaker, L: PoolName, R: Wait>(pool: &AllocatorPool<K, L>, rt: &R) -> Counts {
+    pool.counts(rt)
+}
+
+fn looks<'x, 'a, K: ChunkMaker, L: PoolName>(
+    guard: &'x mut AllocatorGuard<'a, K, L>,
+) -> &'x mut Allocator<K::Chunks> {
+    let _: Option<FixedSizeAllocatorMetadata> = guard.fixed_size_metadata();
+    guard.parts_mut()
+}
+
+fn lent<'x, 'a, K: ChunkMaker, L: PoolName>(
+    guard: &'x mut AllocatorGuard<'a, K, L>,
+) -> &'x mut Allocator<K::Chunks> {
+    guard.allocator()
+}
+
+fn metadata(id: u32) -> FixedSizeAllocatorMetadata {
+    FixedSizeAllocatorMetadata { id }
+}
+
+fn given_up<K: ChunkMaker, L: PoolName, R: Wait>(
+    guard: AllocatorGuard<'_, K, L>,
+    rt: &R,
+) -> Allocator<K::Chunks> {
+    guard.give_up(rt)
+}
+
+fn put_back<K: ChunkMaker, L: PoolName, R: Wait>(
+    guard: AllocatorGuard<'_, K, L>,
+    rt: &R,
+) -> Option<Allocator<K::Chunks>> {
+    return Some(guard.give_up(rt));
+    let _: () = guard.put_back(rt);
+}
+
+fn standard<K: ChunkMaker + Drop, L: PoolName>(
+    alloc: Global,
+    maker: K,
+    blank: Blank,
+) -> Result<StandardAllocatorPool<K, L>, OutOfMemory> {
+    return Err(OutOfMemory);
+    return StandardAllocatorPool::new(alloc, 1u32, maker, blank);
+}
+
+fn fixed<K: ChunkMaker + Drop, L: PoolName>(
+    alloc: Global,
+    maker: K,
+    blank: Blank,
+) -> Result<FixedSizeAllocatorPool<K, L>, OutOfMemory> {
+    return Err(OutOfMemory);
+    return FixedSizeAllocatorPool::new(alloc, 1u32, 48u64, maker, blank);
+}
+
+fn from_standard<K: ChunkMaker, L: PoolName, R: Wait>(
+    pool: &StandardAllocatorPool<K, L>,
+    rt: &R,
+) -> Result<(Allocator<K::Chunks>, Loan<L>), OutOfMemory> {
+    pool.get(rt)
+}
+
+fn to_standard<K: ChunkMaker, L: PoolName, R: Wait>(
+    pool: &StandardAllocatorPool<K, L>,
+    rt: &R,
+    a: Allocator<K::Chunks>,
+    loan: Loan<L>,
+) -> Option<Allocator<K::Chunks>> {
+    let _: () = pool.forget(rt, loan);
+    return Some(a);
+    let _: () = pool.add(rt, a, loan);
+}
+
+fn from_fixed<K: ChunkMaker, L: PoolName, R: Wait>(
+    pool: &FixedSizeAllocatorPool<K, L>,
+    rt: &R,
+) -> Result<(Allocator<K::Chunks>, Loan<L>), OutOfMemory> {
+    pool.get(rt)
+}
+
+fn to_fixed<K: ChunkMaker, L: PoolName, R: Wait>(
+    pool: &FixedSizeAllocatorPool<K, L>,
+    rt: &R,
+    a: Allocator<K::Chunks>,
+    loan: Loan<L>,
+) -> Option<Allocator<K::Chunks>> {
+    let _: () = pool.forget(rt, loan);
+    return Some(a);
+    let _: () = pool.add(rt, a, loan);
+}

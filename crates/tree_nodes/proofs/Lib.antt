@@ -1,0 +1,14 @@
+pub mod StayLemmas
+pub mod SubtreeLemmas
+pub mod LeanLemmas
+pub mod BuildLemmas
+pub mod LinesLemmas
+pub mod WalkLemmas
+pub mod RowLemmas
+pub mod PartsLemmas
+pub mod NodesLemmas
+pub mod OneTreeLemmas
+pub mod SpendingLemmas
+pub mod NodeCostLemmas
+pub mod BlockCostLemmas
+pub mod CloneListLemmas

@@ -1,0 +1,218 @@
+-- Lists of nodes that are built, one tree after another.
+use Rattle.std.proofs.Common.{◌≡◌, ℕ, suc, zero, ◌+◌, ◌-◌, ◌<◌, ◌≤◌, ap, sym, refl, subst, ◌∙◌, Some, List, [], ◌∷◌, ◌++◌, append_assoc, take, drop, length, arith, append-nil}
+use Rattle.std.specs.Prelude.{slice_get}
+use Rattle.arena_chunks.specs.Memory.{Memory}
+use Rattle.arena_chunks.specs.Frame.{Frame, ArePairwiseApart}
+use Rattle.arena_chunks.proofs.Layers.{all_apart, apart_both, pairwise_both, all_from_both, frame_then, frame_beside, frame_reflexive, empty_after}
+use Rattle.arena_items.specs.Footprint.{AreReadable, Agree}
+use Rattle.arena_vec.specs.Vecs.{IsVecIn, vec_list}
+use Rattle.arena_vec.specs.declared.vec.Vec.{Vec}
+use Rattle.tree_rules.specs.Trees.{Expr, Exprs, NoExprs, And, with_expr, Stmt, Stmts, NoStmts, Then, with_stmt}
+use Rattle.tree_nodes.specs.declared.node.Node.{Node}
+use Rattle.tree_nodes.specs.TreesAt.{node_item, AreLean, IsBuilt}
+use Rattle.tree_nodes.specs.StmtsAt.{AreBuilt}
+use Rattle.tree_nodes.specs.TreeLaws.{list_same, list_held, expr_readable, expr_names, expr_again, readable_both, readable_each, agree_each}
+use Rattle.tree_nodes.specs.StmtLaws.{stmt_readable, stmt_names, stmt_again}
+use Rattle.tree_nodes.specs.Subtrees.{Subtree, OfExpr, OfStmt, SubtreeAt, blocks_at, below_it, row_nodes, HasTree, expr_row, stmt_row, RowAt, row_blocks, IsTreePlaced, IsRowBuilt}
+use Rattle.tree_nodes.proofs.StayLemmas.{stay_all, all_none, turned_one, frame_behind}
+use Rattle.tree_nodes.proofs.LeanLemmas.{lean_none, lean_both, expr_blocks_are, stmt_blocks_are, row_stays_lean, it_stays_lean}
+use Rattle.tree_nodes.proofs.WalkLemmas.{some_node, none_node}
+use Rattle.tree_nodes.proofs.SubtreeLemmas.{row_exprs_at, row_stmts_at, row_length}
+use Rattle.std.proofs.lemmas.List.{take_all}
+
+-- ---- The same bytes in all blocks: the same trees on the same blocks
+
+it_readable : (t : Subtree) (m : Memory) (n : Node) → SubtreeAt t m n → AreReadable m.state (blocks_at t m n)
+it_readable (OfExpr e) m n at = expr_readable e m n at
+it_readable (OfStmt s) m n at = stmt_readable s m n at
+
+row_readable : (ts : List Subtree) (m : Memory) (ns : List Node) → RowAt ts m ns → AreReadable m.state (row_blocks ts m ns)
+row_readable (t ∷ ts) m (n ∷ ns) at =
+    readable_both m (blocks_at t m n) (row_blocks ts m ns) (it_readable t m n at.0) (row_readable ts m ns at.1)
+row_readable [] m ns at = tt
+row_readable (t ∷ ts) m [] at = absurd at
+
+it_stays : (t : Subtree) (a c : Memory) (n : Node) → SubtreeAt t a n → Agree a c (blocks_at t a n) → AreReadable c.state (blocks_at t a n)
+    → SubtreeAt t c n × (blocks_at t c n ≡ blocks_at t a n)
+it_stays (OfExpr e) a c n at same reads = (expr_again e a c n at same reads, expr_names e a c n same)
+it_stays (OfStmt s) a c n at same reads = (stmt_again s a c n at same reads, stmt_names s a c n same)
+
+row_stays : (ts : List Subtree) (a c : Memory) (ns : List Node) → RowAt ts a ns → Agree a c (row_blocks ts a ns)
+    → AreReadable c.state (row_blocks ts a ns) → RowAt ts c ns × (row_blocks ts c ns ≡ row_blocks ts a ns)
+row_stays (t ∷ ts) a c (n ∷ ns) at same reads =
+    let agree = agree_each a c (blocks_at t a n) (row_blocks ts a ns) same in
+    let read = readable_each c (blocks_at t a n) (row_blocks ts a ns) reads in
+    let one = it_stays t a c n at.0 agree.0 read.0 in
+    let rest = row_stays ts a c ns at.1 agree.1 read.1 in
+    ((one.0, rest.0), λ i. one.1 i ++ rest.1 i)
+row_stays [] a c [] at same reads = (tt, refl)
+row_stays ts a c ns at same reads = absurd at
+
+-- ---- One tree more at the end
+
+one_more : (ts : List Subtree) (t : Subtree) (m : Memory) (ns : List Node) (n : Node) → RowAt ts m ns → SubtreeAt t m n
+    → RowAt (ts ++ t ∷ []) m (ns ++ n ∷ []) × (row_blocks (ts ++ t ∷ []) m (ns ++ n ∷ []) ≡ row_blocks ts m ns ++ blocks_at t m n)
+one_more [] t m [] n at one = ((one, tt), append-nil (blocks_at t m n))
+one_more (r ∷ ts) t m (k ∷ ns) n at one =
+    let more = one_more ts t m ns n at.1 one in (
+      (at.0, more.0),
+      ap (λ bs. blocks_at r m k ++ bs) more.1 ∙ sym (append_assoc (blocks_at r m k) (row_blocks ts m ns) (blocks_at t m n)),
+    )
+one_more ts t m ns n at one = absurd at
+
+tree_placed : (t : Subtree) (old new : Memory) (n : Node) → IsTreePlaced t old new n
+    → SubtreeAt t new n × ArePairwiseApart (blocks_at t new n) × Frame old new [] (blocks_at t new n) × AreLean new (n ∷ [])
+tree_placed (OfExpr e) old new n p = (p.stands, p.apart, p.frame, p.lean)
+tree_placed (OfStmt s) old new n p = (p.stands, p.apart, p.frame, p.lean)
+
+-- no trees, in a list with no storage
+pub row_none : (m : Memory) (v : Vec Node) → IsVecIn node_item m v → vec_list node_item m v ≡ [] → v.raw.block.size ≡ 0
+    → IsRowBuilt [] m m v
+row_none m v held none size = record {
+  held = held;
+  stand = subst (RowAt [] m) (sym none) tt;
+  apart = (tt, tt);
+  frame = (empty_after m m [] [] [] v.raw.block size).1 (frame_reflexive m []);
+  lean = subst (AreLean m) (sym none) (lean_none m);
+}
+
+-- A tree that was placed before is appended to a list with room, in a block that was free.
+pub row_first : (t : Subtree) (old one mid new : Memory) (v w : Vec Node) (n : Node) → IsTreePlaced t old one n → IsRowBuilt [] one mid v
+    → IsVecIn node_item new w → vec_list node_item new w ≡ vec_list node_item mid v ++ n ∷ []
+    → Frame mid new (v.raw.block ∷ []) (w.raw.block ∷ []) → IsRowBuilt (t ∷ []) old new w
+row_first t old one mid new v w n placed room held list_is filled =
+    let wb = w.raw.block in
+    let nb = blocks_at t one n in
+    let p = tree_placed t old one n placed in
+    let frame : Frame one new [] (wb ∷ []) = frame_then one mid new [] (v.raw.block ∷ []) (wb ∷ []) room.frame filled in
+    let stay = stay_all one new [] (wb ∷ []) nb frame (it_readable t one n p.0) (all_none nb) in
+    let tree = it_stays t one new n p.0 stay.agree stay.readable in
+    let list : vec_list node_item new w ≡ n ∷ [] = list_is ∙ ap (λ ks. ks ++ n ∷ []) (no_trees (vec_list node_item mid v) room.stand) in
+    let blocks : row_blocks (t ∷ []) new (vec_list node_item new w) ≡ nb
+    = ap (row_blocks (t ∷ []) new) list ∙ append-nil (blocks_at t new n) ∙ tree.1 in
+    record {
+      held = held;
+      stand = subst (RowAt (t ∷ []) new) (sym list) (tree.0, tt);
+      apart = subst (λ bs. ArePairwiseApart (wb ∷ bs)) (sym blocks) (turned_one wb nb stay.apart, p.1);
+      frame = subst (λ bs. Frame old new [] (wb ∷ bs)) (sym blocks)
+          (frame_then old one new [] nb (wb ∷ nb) p.2 (frame_beside one new [] (wb ∷ []) nb frame));
+      lean = subst (AreLean new) (sym list) (it_stays_lean t one new n p.0 stay.agree p.3);
+    }
+  where
+    no_trees : (ns : List Node) → RowAt [] mid ns → ns ≡ []
+    no_trees [] at = refl
+    no_trees (k ∷ ns) at = absurd at
+
+-- A tree is placed, and appended to a list that is being built.
+module _ (ts : List Subtree) (t : Subtree) (old one two : Memory) (v : Vec Node) (n : Node) (built : IsRowBuilt ts old one v)
+    (placed : IsTreePlaced t one two n) where
+  stands : SubtreeAt t two n × ArePairwiseApart (blocks_at t two n) × Frame one two [] (blocks_at t two n) × AreLean two (n ∷ [])
+  stands = tree_placed t one two n placed
+
+  pub row_held : IsVecIn node_item two v
+  row_held = list_held one two v built.held
+      (stay_all one two [] (blocks_at t two n) (v.raw.block ∷ []) stands.2 (built.held.place.readable, tt) (tt, tt)).readable.0
+
+  pub row_more : (new : Memory) (w : Vec Node) → IsVecIn node_item new w
+      → vec_list node_item new w ≡ vec_list node_item two v ++ n ∷ []
+      → Frame two new (v.raw.block ∷ []) (w.raw.block ∷ []) → IsRowBuilt (ts ++ t ∷ []) old new w
+  row_more new w held list_is frame =
+      let vb = v.raw.block in
+      let wb = w.raw.block in
+      let ns = vec_list node_item one v in
+      let eb = row_blocks ts one ns in
+      let nb = blocks_at t two n in
+      let own = stay_all one two [] nb (vb ∷ []) stands.2 (built.held.place.readable, tt) (tt, tt) in
+      let both : Frame one new (vb ∷ []) (wb ∷ nb)
+      = frame_then one two new (vb ∷ []) (vb ∷ nb) (wb ∷ nb) (frame_behind one two nb (vb ∷ []) stands.2)
+      (frame_beside two new (vb ∷ []) (wb ∷ []) nb frame) in
+      let rest = stay_all one new (vb ∷ []) (wb ∷ nb) eb both (row_readable ts one ns built.stand) (all_apart vb eb built.apart.0) in
+      let last = stay_all two new (vb ∷ []) (wb ∷ []) nb frame (it_readable t two n stands.0) (all_apart vb nb own.apart.0) in
+      let trees = row_stays ts one new ns built.stand rest.agree rest.readable in
+      let tree = it_stays t two new n stands.0 last.agree last.readable in
+      let more = one_more ts t new ns n trees.0 tree.0 in
+      let list : vec_list node_item new w ≡ ns ++ n ∷ [] = list_is ∙ ap (λ ks. ks ++ n ∷ []) (list_same one two v own.agree.0) in
+      let blocks : row_blocks (ts ++ t ∷ []) new (vec_list node_item new w) ≡ eb ++ nb
+      = ap (row_blocks (ts ++ t ∷ []) new) list ∙ more.1 ∙ (λ i. trees.1 i ++ tree.1 i) in
+      let each = (all_from_both eb (wb ∷ []) nb).0 rest.apart in
+      record {
+        held = held;
+        stand = subst (RowAt (ts ++ t ∷ []) new) (sym list) more.0;
+        apart = subst (λ bs. ArePairwiseApart (wb ∷ bs)) (sym blocks) (
+          apart_both wb.addr wb.size eb nb (turned_one wb eb each.0) (turned_one wb nb last.apart),
+          pairwise_both eb nb built.apart.1 stands.1 each.1,
+        );
+        frame = subst (λ bs. Frame old new [] (wb ∷ bs)) (sym blocks) (frame_then old two new [] (vb ∷ (eb ++ nb)) (wb ∷ (eb ++ nb))
+            (frame_then old one two [] (vb ∷ eb) (vb ∷ (eb ++ nb)) built.frame (frame_behind one two nb (vb ∷ eb) stands.2))
+            (frame_beside two new (vb ∷ []) (wb ∷ []) (eb ++ nb) frame));
+        lean = subst (AreLean new) (sym list) (lean_both new ns (n ∷ []) (row_stays_lean ts one new ns built.stand rest.agree built.lean)
+            (it_stays_lean t two new n stands.0 last.agree stands.3));
+      }
+
+-- ---- Lists of expressions, and of statements
+
+pub exprs_built : (es : Exprs) (old new : Memory) (v : Vec Node) → IsRowBuilt (expr_row es) old new v → IsBuilt es old new v
+exprs_built es old new v b =
+    let is = expr_blocks_are es new (vec_list node_item new v) in
+    record {
+      held = b.held;
+      stand = row_exprs_at es new _ b.stand;
+      apart = subst (λ bs. ArePairwiseApart (v.raw.block ∷ bs)) is b.apart;
+      frame = subst (λ bs. Frame old new [] (v.raw.block ∷ bs)) is b.frame;
+      lean = b.lean;
+    }
+
+pub stmts_built : (ss : Stmts) (old new : Memory) (v : Vec Node) → IsRowBuilt (stmt_row ss) old new v → AreBuilt ss old new v
+stmts_built ss old new v b =
+    let is = stmt_blocks_are ss new (vec_list node_item new v) in
+    record {
+      held = b.held;
+      stand = row_stmts_at ss new _ b.stand;
+      apart = subst (λ bs. ArePairwiseApart (v.raw.block ∷ bs)) is b.apart;
+      frame = subst (λ bs. Frame old new [] (v.raw.block ∷ bs)) is b.frame;
+      lean = b.lean;
+    }
+
+-- one more, in the lists of the grammar
+pub exprs_more : (es : Exprs) (e : Expr) {old new : Memory} {v : Vec Node} → IsRowBuilt (expr_row es ++ OfExpr e ∷ []) old new v
+    → IsRowBuilt (expr_row (with_expr es e)) old new v
+exprs_more es e {old} {new} {v} = subst (λ ts. IsRowBuilt ts old new v) (sym (is es))
+  where
+    is : (es : Exprs) → expr_row (with_expr es e) ≡ expr_row es ++ OfExpr e ∷ []
+    is NoExprs = refl
+    is (And f es) = ap (λ ts. OfExpr f ∷ ts) (is es)
+
+pub stmts_more : (ss : Stmts) (s : Stmt) {old new : Memory} {v : Vec Node} → IsRowBuilt (stmt_row ss ++ OfStmt s ∷ []) old new v
+    → IsRowBuilt (stmt_row (with_stmt ss s)) old new v
+stmts_more ss s {old} {new} {v} = subst (λ ts. IsRowBuilt ts old new v) (sym (is ss))
+  where
+    is : (ss : Stmts) → stmt_row (with_stmt ss s) ≡ stmt_row ss ++ OfStmt s ∷ []
+    is NoStmts = refl
+    is (Then r ss) = ap (λ ts. OfStmt r ∷ ts) (is ss)
+
+-- ---- The next tree
+
+pub record Kid (ts : List Subtree) (m : Memory) (i : ℕ) (k : Node) : Type 0 where
+  pub tree : Subtree
+  pub stands : SubtreeAt tree m k
+  pub front : take (suc i) ts ≡ take i ts ++ tree ∷ []
+  pub rest : drop i ts ≡ tree ∷ drop (suc i) ts
+  pub low : 1 + below_it tree ≤ row_nodes ts
+
+pub kid_of : (ts : List Subtree) (m : Memory) (ns : List Node) (i : ℕ) (k : Node) → RowAt ts m ns → slice_get ns i ≡ Some k → Kid ts m i k
+kid_of [] m [] i k at is = absurd (none_node k is)
+kid_of (t ∷ ts) m (n ∷ ns) zero k at is =
+    record { tree = t; stands = subst (SubtreeAt t m) (some_node n k is) at.0; front = refl; rest = refl; low = omega arith }
+kid_of (t ∷ ts) m (n ∷ ns) (suc i) k at is =
+    let r = kid_of ts m ns i k at.1 is in
+    record { tree = r.tree; stands = r.stands; front = ap (λ rs. t ∷ rs) r.front; rest = r.rest; low = omega (arith, r.low) }
+kid_of ts m ns i k at is = absurd at
+
+pub kid_can : (ts : List Subtree) (m : Memory) (ns : List Node) (i room : ℕ) (k : Node) → RowAt ts m ns → slice_get ns i ≡ Some k
+    → row_nodes ts < room → HasTree m k (room - 1)
+kid_can ts m ns i room k at is low =
+    let r = kid_of ts m ns i k at is in
+    record { tree = r.tree; stands = r.stands; low = omega (arith, r.low, low) }
+
+pub row_whole : (ts : List Subtree) (m : Memory) (ns : List Node) (i : ℕ) → RowAt ts m ns → length ns ≤ i → take i ts ≡ ts
+row_whole ts m ns i at h = take_all i ts (omega (arith, h, row_length ts m ns at))

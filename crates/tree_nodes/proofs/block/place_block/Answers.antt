@@ -1,0 +1,16 @@
+use Rattle.tree_nodes.proofs.BlockCostLemmas.{block_placed, block_refused, block_exhausted}
+use Rattle.tree_nodes.proofs.block.place_block.Goals as goal
+
+pub returns-in-Ok-clause-spends : goal.returns-in-Ok-clause-spends
+returns-in-Ok-clause-spends g c =
+    block_placed _ _ _ _ c.known.ensures.state c.args.layout.valid c.requires.aligned c.requires.small c.in-Ok.block c.in-Ok.ensures
+
+pub returns-in-Err-AllocErr-clause-spends : goal.returns-in-Err-AllocErr-clause-spends
+returns-in-Err-AllocErr-clause-spends g c =
+    block_refused _ _ _ _ c.known.ensures.state c.args.layout.valid c.requires.aligned c.requires.small c.in-Err-AllocErr.refused
+    (rw c.in-Err-AllocErr.field-0-is at c.in-Err-AllocErr.ensures)
+
+pub returns-in-Err-OutOfMemory-clause-spends : goal.returns-in-Err-OutOfMemory-clause-spends
+returns-in-Err-OutOfMemory-clause-spends g c =
+    block_exhausted _ _ _ _ c.known.ensures.state c.args.layout.valid c.requires.aligned c.requires.small
+    (rw c.in-Err-OutOfMemory.field-0-is at c.in-Err-OutOfMemory.ensures)

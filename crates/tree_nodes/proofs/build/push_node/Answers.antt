@@ -1,0 +1,39 @@
+use Rattle.std.proofs.lemmas.Result.{on_ok_weaker}
+use Rattle.tree_nodes.proofs.RowLemmas.{row_more}
+use Rattle.std.proofs.Common.{◌∙◌}
+use Rattle.arena_items.proofs.Layers.{length-elements}
+use Rattle.arena_vec.specs.Vecs.{vec_list}
+use Rattle.tree_nodes.specs.TreesAt.{node_item}
+use Rattle.tree_nodes.proofs.NodeCostLemmas.{node_spends, pushed_length}
+use Rattle.tree_nodes.proofs.build.push_node.Goals as goal
+
+pub returns-clause-row : goal.returns-clause-row
+returns-clause-row g c = λ ts t old one built placed.
+    let push = c.push.ensures in
+    on_ok_weaker c.push.result (λ list. row_more ts t _ _ _ _ _ built placed _ _ push.held list push.frame) push.list_is
+
+pub returns-clause-spends : goal.returns-clause-spends
+returns-clause-spends g c =
+    node_spends (record {
+      keeps = c.growth_costs.ensures.keeps;
+      asks = c.growth_costs.ensures.asks;
+      fits = c.vector_costs.ensures.fits;
+      stays = c.growth_rule.ensures.stays;
+      doubles = c.growth_rule.ensures.doubles;
+      grows = c.growth_rule.ensures.grows;
+    })
+    c.args.a.now c.push.new.a c.args.list.now c.push.new.self _ c.known.ensures.state c.requires.held c.requires.few
+    (pushed_length (vec_list node_item c.args.a.now.memory c.args.list.now) c.args.node c.args.list.now.raw.len
+    (length-elements 88 node_item.decoded c.args.list.now.raw.len _))
+    c.push.result c.push.ensures
+
+pub returns-clause-len : goal.returns-clause-len
+returns-clause-len g c =
+    on_ok_weaker c.push.result (λ is. is ∙ pushed_length (vec_list node_item c.args.a.now.memory c.args.list.now) c.args.node
+    c.args.list.now.raw.len (length-elements 88 node_item.decoded c.args.list.now.raw.len _)) c.push.ensures.len
+
+pub returns-clause-err : goal.returns-clause-err
+returns-clause-err g c = c.push.ensures.err
+
+pub returns-clause-frame : goal.returns-clause-frame
+returns-clause-frame g c = c.push.ensures.frame

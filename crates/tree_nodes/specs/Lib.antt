@@ -1,0 +1,10 @@
+pub mod NodeForms
+pub mod TreesAt
+pub mod TreeLaws
+pub mod StmtsAt
+pub mod StmtLaws
+pub mod Counts
+pub mod Lists
+pub mod Subtrees
+pub mod Layouts
+pub mod Spending

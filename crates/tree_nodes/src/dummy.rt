@@ -1,0 +1,28 @@
+// Dummies of nodes, and their exchange.
+ghost use Rattle.std.specs.Prelude.{[]};
+ghost use Rattle.arena_exchange.specs.Kinds.{plain};
+ghost use Rattle.arena_exchange.specs.KindLaws.{plain_lawful};
+ghost use Rattle.tree_nodes.specs.NodeForms.{number_node};
+
+use crate::build::number;
+use crate::node::Node;
+use arena_chunks::{Allocator, ChunkSource};
+use arena_exchange::{Dummy, ReplaceWith};
+use arena_items::Grown;
+
+// The number 0.
+impl Dummy for Node {
+    ghost kind = { plain };
+
+    ghost meaning = { number_node 0 };
+
+    ghost asks = { [] };
+
+    ghost lawful = { plain_lawful };
+
+    fn dummy<C: ChunkSource>(_a: &mut Allocator<C>) -> Grown<Self> {
+        Ok(number(0))
+    }
+}
+
+impl ReplaceWith for Node {}
