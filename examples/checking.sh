@@ -1,8 +1,8 @@
 # Functions for the checks of the examples, which read this file by `.`. At the end, `failed` is their status.
 failed=0
 
-# told NAME: prints whether the last comparison succeeded.
-told() {
+# report NAME: prints whether the last comparison succeeded.
+report() {
     if [ "$?" = 0 ]; then
         echo "ok   $1"
     else

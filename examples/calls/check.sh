@@ -7,6 +7,6 @@ program=$("$here/../../tools/program.sh" arena_run --version) || exit 1
 for input in "$here"/*.txt; do
     name=$(basename "$input" .txt)
     "$program" calls <"$input" | cmp -s - "$here/$name.replies"
-    told "$name"
+    report "$name"
 done
 exit $failed

@@ -6,6 +6,6 @@ program=$("$here/../../tools/program.sh" arena_run --version) || exit 1
 . "$here/../checking.sh"
 for run in first second; do
     "$program" gen 1 1000000 < /dev/null | cmp -s - "$here/million.summary"
-    told "a million calls from 1, $run run"
+    report "a million calls from 1, $run run"
 done
 exit $failed

@@ -9,7 +9,7 @@ for input in "$here"/*.txt; do
     name=$(basename "$input" .txt)
     for workers in 1 2 7 64; do
         "$program" lint $workers < "$input" | cmp -s - "$here/$name.replies"
-        told "$name, lint $workers"
+        report "$name, lint $workers"
     done
 done
 exit $failed

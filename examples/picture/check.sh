@@ -11,12 +11,12 @@ program=$("$here/../../tools/program.sh" arena_picture) || exit 1
 for input in "$here"/*.txt; do
     name=$(basename "$input" .txt)
     [ "$("$program" <"$input"; echo "status $?")" = "$(cat "$here/$name.svg"; echo 'status 0')" ]
-    told "$name"
+    report "$name"
 done
 said=$(printf 'used\nalloc x\n' | "$program" 2>&1)
 [ "$?, $said" = '2, line 2 is not understood' ]
-told 'no call'
+report 'no call'
 said=$("$program" <"$here/blocks.txt" 2>&1 >/dev/full)
 [ "$?, $said" = '5, write fault' ]
-told 'full output'
+report 'full output'
 exit $failed

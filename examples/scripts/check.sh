@@ -9,7 +9,7 @@ program=$("$here/../../tools/program.sh" arena_run --version) || exit 1
 # replies NAME REPLIES WORD..: runs an example with these words, and compares its replies.
 replies() {
     "$program" "${@:3}" < "$here/$1.txt" | cmp -s - "$2"
-    told "$1, ${*:3}"
+    report "$1, ${*:3}"
 }
 
 for input in "$here"/*.txt; do
