@@ -50,9 +50,14 @@ while read -r _ name; do
     cp "mutants/$name" "$copy/crates/${name%/*}/must-fail"
 done < "$copy/chosen"
 
+# In CI the kit runs the whole gate alone, so it is run on the copy; the crates that have no mutant there are kept.
 try=must-fail
 [[ $(rt help 2>&1) != *'rt ci NAME'* ]] || try=ci
-cut -d' ' -f2 "$copy/chosen" | cut -d/ -f1 | sort -u | (cd "$copy" && xargs rt $try) > "$copy/printed" 2>&1 || true
+if [ "${CI-}" = true ] && [ $try = ci ]; then
+    (cd "$copy" && rt ci)
+else
+    cut -d' ' -f2 "$copy/chosen" | cut -d/ -f1 | sort -u | (cd "$copy" && xargs rt $try)
+fi > "$copy/printed" 2>&1 || true
 grep 'must-fail [a-z_]*/' "$copy/printed" | cut -c1-200 || true
 
 # The lines of those that were refused take the place of their older ones.
