@@ -34,6 +34,7 @@ for word; do
     named+=("${loops[@]}")
 done
 set -- "${named[@]}"
+[ -z "${NATIVE:-}" ] || [ -x "$NATIVE" ] || { echo "NATIVE is no program: $NATIVE" >&2; exit 1; }
 
 program=$("$here/../tools/program.sh" bench_arena check)
 lines=$(mktemp)

@@ -2,6 +2,7 @@
 # They read this file by `.`. It sets `program`, a scratch `folder`, and `input`, the file that both programs read.
 set -euo pipefail
 export LC_ALL=C
+[ -z "${NATIVE:-}" ] || [ -x "$NATIVE" ] || { echo "NATIVE is no program: $NATIVE" >&2; exit 1; }
 [ -x /usr/bin/time ] || { echo "peak memory is measured with GNU time, /usr/bin/time" >&2; exit 1; }
 program=$("$(dirname "${BASH_SOURCE[0]}")/../tools/program.sh" arena_run --version)
 folder=$(mktemp -d)

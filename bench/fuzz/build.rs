@@ -77,7 +77,7 @@ const PLANTS: [(&str, &str, &str); 3] = [
 ];
 
 fn replaced(text: &str, old: &str, new: &str) -> String {
-    assert_eq!(text.matches(old).count(), 1, "{old} doesn't stand once");
+    assert_eq!(text.matches(old).count(), 1, "{old} doesn't occur exactly once");
     text.replace(old, new)
 }
 

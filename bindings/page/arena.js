@@ -20,13 +20,13 @@ async function loadArena(bytes) {
         for (;;) {
             heap_forget();
             const list = put(BigUint64Array.from(refuse)), count = BigInt(refuse.length);
-            const at = put(new BigUint64Array(4)), out = put(new Uint8Array(room));
+            const at = put(new BigUint64Array(3)), out = put(new Uint8Array(room));
             const status = call(budget, list, count, out, BigInt(room), at);
-            const report = new BigUint64Array(memory.buffer, Number(at), 4);
-            const [length, line, refused, exhausted] = Array.from(report, Number);
+            const report = new BigUint64Array(memory.buffer, Number(at), 3);
+            const [length, line, refused] = Array.from(report, Number);
             if (status !== 7) {
                 const text = new TextDecoder().decode(new Uint8Array(memory.buffer, Number(out), length));
-                return { status, text, line, refused, exhausted };
+                return { status, text, line, refused };
             }
             room = length;
         }

@@ -8,7 +8,6 @@ struct Report {
     length: u64,
     line: u64,
     refused: u64,
-    exhausted: u64,
 }
 
 // As in bindings/c/arena_oracle.h.
@@ -61,7 +60,7 @@ type OverLines = unsafe extern "C" fn(
 pub enum RunError {
     /// This line, counted from 1, is the first that isn't a call. Nothing was run.
     BadLine(u64),
-    /// Out of memory.
+    /// Out of memory, also for a chunk within the limits.
     OutOfMemory,
     /// There are more than 16,777,216 bytes of lines.
     InputTooLong,
@@ -102,11 +101,8 @@ impl Default for Limits {
 #[derive(Default)]
 pub struct Oracle {
     out: Vec<u8>,
-    /// How many requests for chunks were refused in the last run.
+    /// How many requests for chunks were refused in the last run: those that the limits refuse, if it returned a text.
     pub refused: u64,
-    /// After a run that returned a text, how many of these were refused for lack of memory. If 0, as many were refused as
-    /// the limits refuse.
-    pub exhausted: u64,
 }
 
 impl Oracle {
@@ -120,7 +116,7 @@ impl Oracle {
         loop {
             let mut report = Report::default();
             let code = call(self.out.as_mut_ptr(), self.out.len(), &mut report);
-            (self.refused, self.exhausted) = (report.refused, report.exhausted);
+            self.refused = report.refused;
             return match code {
                 0 => Ok(&self.out[..report.length as usize]),
                 2 => Err(RunError::BadLine(report.line)),

@@ -56,9 +56,7 @@ tallied tally replies state used allocated is used_is allocated_is =
     rw (is.calls, is.placed, is.failed, is.other, is.bytes, is.byte_sum, used_is, allocated_is) refl
 
 pub summed : (tally : Tally) (replies : List Reply) (state : State) (used allocated : ℕ) (old new : List ℕ) → IsTally tally replies
-    → used ≡ used_bytes state
-    → allocated ≡ allocated_bytes state → old ≡ [] → new ≡ old ++ summary_text (counted tally used allocated)
-    → new ≡ summary_text (summary_of replies state)
-summed tally replies state used allocated old new is used_is allocated_is none put =
-    put ∙ ap (λ xs. xs ++ summary_text (counted tally used allocated)) none
-    ∙ ap summary_text (tallied tally replies state used allocated is used_is allocated_is)
+    → used ≡ used_bytes state → allocated ≡ allocated_bytes state → new ≡ old ++ summary_text (counted tally used allocated)
+    → new ≡ old ++ summary_text (summary_of replies state)
+summed tally replies state used allocated old new is used_is allocated_is put =
+    put ∙ ap (λ (eight : Eight). old ++ summary_text eight) (tallied tally replies state used allocated is used_is allocated_is)

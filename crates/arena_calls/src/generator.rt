@@ -6,3 +6,5 @@ mod tally;
 
 pub use calls::Draws;
 pub use run::run_generated;
+pub use summary::{put_summary, room_for_text};
+pub use tally::Tally;

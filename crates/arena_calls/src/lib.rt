@@ -15,7 +15,7 @@ mod whole_run;
 
 pub use arguments::is_one_word;
 pub use budget::{Budgeted, program_chunks};
-pub use generator::{Draws, run_generated};
+pub use generator::{Draws, Tally, put_summary, room_for_text, run_generated};
 pub use line_parts::LinesErr;
 pub use lines::parse_calls;
 pub use messages::exit_with;

@@ -16,7 +16,7 @@ use Rattle.arena_drawing.specs.Ends.{picture_of, HasPlace, RunsToPicture}
 use Rattle.arena_drawing.proofs.PlaceLemmas.{stands_in, range_used}
 
 -- each block of some bytes that a name holds has its place
-placed : (entry exit : View) (calls : List Call) (replies : List Reply) (held : List (ℕ × Block))
+pub placed : (entry exit : View) (calls : List Call) (replies : List Reply) (held : List (ℕ × Block))
     → (runs : Runs entry exit calls replies held) (name : ℕ) (p : Place) → finite.get runs.last.held name ≡ Some p → 0 < p.size
     → HasPlace exit.memory.state (block_at runs.last.state.generation p)
 placed entry exit calls replies held runs name p at some =

@@ -1,6 +1,7 @@
 -- How runs over a new arena end.
-use Rattle.std.proofs.Common.{◌≡◌, ℕ, ◌+◌, ◌<◌, ◌≤◌, List, [], length, take, drop, Option, Some, Result, Ok, Err, refl, sym, subst, arith, inl, inr, take-append-drop, append-nil, length-take-le}
-use Rattle.std.specs.Prelude.{IfErr}
+use Rattle.std.proofs.Common.{◌≡◌, ℕ, ◌+◌, ◌<◌, ◌≤◌, false, List, [], length, take, drop, Option, Some, Result, Ok, Err, refl, sym, subst, arith, inl, inr, take-append-drop, append-nil, length-take-le}
+use Rattle.std.specs.Prelude.{IfOk, IfErr}
+use Rattle.arena_rules.specs.State.{State}
 use Rattle.call_rules.specs.Generator.{gen_calls}
 use Rattle.call_rules.specs.Grammar.{CallsOf}
 use Rattle.call_rules.specs.Replies.{text_of}
@@ -9,17 +10,17 @@ use Rattle.call_rules.specs.declared.calls.Reply.{Reply}
 use Rattle.arena_store.specs.Memory.{Memory}
 use Rattle.arena_store.specs.Source.{Source, View, view}
 use Rattle.arena_store.specs.declared.block.Block.{Block}
-use Rattle.arena_chunks.specs.Runs.{Runs, StopsWith}
-use Rattle.arena_chunks.specs.declared.runs.run.Stopped.{Stopped}
-use Rattle.arena_calls.specs.Ends.{Outside, IsWritten, Ends, EndsWith, GenEnds, RunsInput, RunsTo, outside, reply_lines}
+use Rattle.arena_chunks.specs.Runs.{Runs}
+use Rattle.arena_calls.specs.Ends.{Outside, IsWritten, Ends, EndsWith, GenEnds, RunsInput, RunsTo, outside, reply_lines, summary_lines}
 use Rattle.arena_calls.specs.ReadAll.{limit}
-use Rattle.arena_calls.specs.Streams.{Writes}
 use Rattle.arena_calls.specs.declared.status.Status.{Status}
 use Rattle.arena_calls.specs.declared.status.Status.TheVariants as status
-use Rattle.arena_calls.proofs.RunLemmas.{stopped_first, told, unwritten}
+use Rattle.arena_calls.proofs.RunLemmas.{unwritten}
 use Rattle.arena_drawing.specs.Ends.{Draws, RunsToPicture, picture_of}
-use Rattle.arena_drawing.proofs.EndLemmas.{drawn, first_all}
-use Rattle.arena_oracle.specs.Answers.{Yields, YieldsNothing, new_arena}
+use Rattle.arena_drawing.proofs.EndLemmas.{first_all, placed}
+use Rattle.arena_oracle.specs.Limits.{KeepsLimits, KeepsThose, limited}
+use Rattle.arena_oracle.specs.Sources.{StopsEarly}
+use Rattle.arena_oracle.specs.Answers.{Ending, Within, CallsWithin, DrawsWithin, GenWithin, Yields, YieldsWithin, YieldsNothing, new_arena, is_done}
 
 -- ---- Nothing is written
 
@@ -60,21 +61,23 @@ no_memory lines arena small = (
   ),
 )
 
--- memory ran out in the run
-pub stopped : (lines : List ℕ) (entry exit : View) (calls read : List Call) (P : List Reply → Type 0) (why : Stopped) → calls ≡ read
-    → length lines ≤ limit → CallsOf lines (Ok read) → StopsWith entry exit calls P why → YieldsNothing status.OutOfMemory lines entry exit
-stopped lines entry exit calls read P why same small are stops =
-    let first = stopped_first entry exit calls read P why stops same in (
-      Some [],
-      (
-        record { reads = refl; writes = refl },
-        inr (
-          read,
-          record { bytes = lines; whole = record { told = (refl, refl); small = small }; lines = are },
-          record { done = first.0; runs = first.1; written = refl },
-        ),
+-- memory ran out before the first call, or in the run
+pub stopped : (lines : List ℕ) (entry exit : View) (calls read : List Call) → calls ≡ read → length lines ≤ limit → CallsOf lines (Ok read)
+    → StopsEarly entry exit calls → YieldsNothing status.OutOfMemory lines entry exit
+stopped lines entry exit calls read same small are stops = elim stops [
+  | inl none ↦ rw none (no_memory lines entry small)
+  | inr first ↦ (
+    Some [],
+    (
+      record { reads = refl; writes = refl },
+      inr (
+        read,
+        record { bytes = lines; whole = record { told = (refl, refl); small = small }; lines = are },
+        record { done = first.0; runs = rw same at first.1; written = refl },
       ),
-    )
+    ),
+  )
+]
 
 -- or after it
 pub stopped_after : (lines : List ℕ) (entry exit : View) (replies : List Reply) (held : List (ℕ × Block))
@@ -91,23 +94,38 @@ stopped_after lines entry exit replies held run = (
   ),
 )
 
--- over a new arena
-pub nothing : (Ran : Outside → Outside → List Call → IsWritten → Type 0) (end : Status) (lines : List ℕ) (before after : Source)
-    (entry exit : Memory) → entry ≡ (new_arena before).memory → YieldsNothing end lines (view entry before) (view exit after)
-    → Yields (EndsWith Ran) lines before after end []
-nothing Ran end lines before after entry exit new none = record {
-  left = none.0;
-  memory = exit;
-  ends = subst (λ (m : Memory). EndsWith Ran end (outside (Some lines) 0 (Some []) 0 (view m before)) (outside none.0 0 (Some []) 0 (view exit after)))
-      new (unwritten Ran _ _ end none.1);
-}
+-- a run that isn't done says no more
+undone : (Is : Ending) (Kept : (old new : Outside) → Is status.Done old new → Type 0) (end : Status) (old new : Outside) → is_done end ≡ false
+    → Is end old new → Within Is Kept end old new
+undone Is Kept status.Done old new other ends = cc
+undone Is Kept status.Usage old new other ends = ends
+undone Is Kept (status.BadLine n) old new other ends = ends
+undone Is Kept status.OutOfMemory old new other ends = ends
+undone Is Kept status.ReadFault old new other ends = ends
+undone Is Kept status.WriteFault old new other ends = ends
+undone Is Kept status.InputTooLong old new other ends = ends
 
--- if a run that draws has failed
-pub nothing_drawn : {T : Type 0} (lines : List ℕ) (before after : Source) (entry exit : Memory) (result : Result T Status)
-    → entry ≡ (new_arena before).memory → IfErr result (λ end. YieldsNothing end lines (view entry before) (view exit after))
-    → IfErr result (λ end. Yields Draws lines before after end [])
-nothing_drawn lines before after entry exit (Ok text) new none = tt
-nothing_drawn lines before after entry exit (Err end) new none = nothing RunsToPicture end lines before after entry exit new none
+-- over a new arena
+module _ (lines : List ℕ) (before after : Source) (entry exit : Memory) (end : Status) where
+  nothing : (Ran : Outside → Outside → List Call → IsWritten → Type 0)
+      (Kept : (old new : Outside) → EndsWith Ran status.Done old new → Type 0) → entry ≡ (new_arena before).memory → is_done end ≡ false
+      → YieldsNothing end lines (view entry before) (view exit after) → Yields (Within (EndsWith Ran) Kept) lines before after end []
+  nothing Ran Kept new other none =
+      let old : Outside = outside (Some lines) 0 (Some []) 0 (new_arena before) in
+      let behind : Outside = outside none.0 0 (Some []) 0 (view exit after) in
+      record {
+        left = none.0;
+        memory = exit;
+        ends = undone (EndsWith Ran) Kept end old behind other (unwritten Ran old behind end (rw new at none.1));
+      }
+
+  pub no_text : entry ≡ (new_arena before).memory → is_done end ≡ false → YieldsNothing end lines (view entry before) (view exit after)
+      → YieldsWithin CallsWithin lines before after end []
+  no_text new other none budget refuse is = nothing (λ old new calls. RunsTo old new calls reply_lines) _ new other none
+
+  pub no_picture : entry ≡ (new_arena before).memory → is_done end ≡ false → YieldsNothing end lines (view entry before) (view exit after)
+      → YieldsWithin DrawsWithin lines before after end []
+  no_picture new other none budget refuse is = nothing RunsToPicture _ new other none
 
 -- ---- The lines were run
 
@@ -123,113 +141,130 @@ run_is lines entry exit calls read replies held same small are runs = record {
   runs = subst (λ (cs : List Call). Runs entry exit cs replies held) same runs;
 }
 
--- a run that is done, where this is what was written of it
-module _ (Ran : Outside → Outside → List Call → IsWritten → Type 0) (lines : List ℕ) (entry exit : View) (replies : List Reply)
-    (held : List (ℕ × Block)) (text : List ℕ) where
-  abbrev old : Outside
-  old = outside (Some lines) 0 (Some []) 0 entry
+-- the limits are kept by these calls
+pub keeps_same : (source : Source) (entry : State) (calls read : List Call) (replies : List Reply) → calls ≡ read
+    → KeepsThose source entry calls replies → KeepsThose source entry read replies
+keeps_same source entry calls read replies same keeps = subst (λ (cs : List Call). KeepsThose source entry cs replies) same keeps
 
-  abbrev new : Outside
-  new = outside (Some []) 0 (Some text) 0 exit
-
-  ran_done : (run : RunsInput (Some lines) (Some []) entry exit replies held) → Ran old new run.calls Writes
-      → EndsWith Ran status.Done old new
-  ran_done run is = (
-    record { reads = refl; writes = refl },
+-- a run that is done
+module _ (lines : List ℕ) (entry exit : View) (replies : List Reply) (held : List (ℕ × Block)) (text : List ℕ)
+    (run : RunsInput (Some lines) (Some []) entry exit replies held) (keeps : KeepsThose entry.source entry.memory.state run.calls replies)
+    (budget : ℕ) (refuse : List ℕ) (limits : entry.source ≡ limited budget refuse) where
+  -- of which this is the text
+  done : text ≡ text_of replies
+      → CallsWithin budget refuse status.Done (outside (Some lines) 0 (Some []) 0 entry) (outside (Some []) 0 (Some text) 0 exit)
+  done same = (
     (
-      run.calls,
-      record { bytes = run.bytes; whole = record { told = run.told; small = run.small }; lines = run.lines },
-      is,
+      record { reads = refl; writes = refl },
+      (
+        run.calls,
+        record { bytes = run.bytes; whole = record { told = run.told; small = run.small }; lines = run.lines },
+        record { replies = replies; blocks = held; runs = run.runs; written = rw (← same) refl },
+      ),
     ),
+    keeps budget refuse limits,
   )
 
--- and this is the text of its replies
-pub done : (lines : List ℕ) (before after : Source) (entry exit : Memory) (replies : List Reply) (held : List (ℕ × Block)) (text : List ℕ)
-    → entry ≡ (new_arena before).memory → RunsInput (Some lines) (Some []) (view entry before) (view exit after) replies held
-    → text ≡ text_of replies → Yields Ends lines before after status.Done text
-done lines before after entry exit replies held text new run same = record {
+  -- or the picture
+  pub pictured : text ≡ picture_of exit.memory.state held
+      → DrawsWithin budget refuse status.Done (outside (Some lines) 0 (Some []) 0 entry) (outside (Some []) 0 (Some text) 0 exit)
+  pictured same = (
+    (
+      record { reads = refl; writes = refl },
+      (
+        run.calls,
+        record { bytes = run.bytes; whole = record { told = run.told; small = run.small }; lines = run.lines },
+        record {
+          replies = replies;
+          held = held;
+          runs = run.runs;
+          written = rw (← same) refl;
+          placed = placed entry exit run.calls replies held run.runs;
+        },
+      ),
+    ),
+    keeps budget refuse limits,
+  )
+
+-- over a new arena
+pub text_done : (lines : List ℕ) (before after : Source) (entry exit : Memory) (replies : List Reply) (held : List (ℕ × Block)) (text : List ℕ)
+    → entry ≡ (new_arena before).memory → (run : RunsInput (Some lines) (Some []) (view entry before) (view exit after) replies held)
+    → KeepsThose before entry.state run.calls replies → text ≡ text_of replies
+    → YieldsWithin CallsWithin lines before after status.Done text
+text_done lines before after entry exit replies held text new run keeps same budget refuse limits = record {
   left = Some [];
   memory = exit;
-  ends = subst (λ (m : Memory). Ends status.Done (outside (Some lines) 0 (Some []) 0 (view m before)) (outside (Some []) 0 (Some text) 0 (view exit after)))
-      new (ran_done (λ old new calls. RunsTo old new calls reply_lines) lines (view entry before) (view exit after) replies held text run
-      (told _ _ run.calls reply_lines replies held text Writes run.runs same refl));
+  ends = subst (λ (m : Memory). CallsWithin budget refuse status.Done (outside (Some lines) 0 (Some []) 0 (view m before))
+      (outside (Some []) 0 (Some text) 0 (view exit after))) new
+      (done lines (view entry before) (view exit after) replies held text run keeps budget refuse limits same);
 }
-
--- or the picture
-pub pictured : (lines : List ℕ) (entry exit : View) (replies : List Reply) (held : List (ℕ × Block)) (text : List ℕ)
-    → RunsInput (Some lines) (Some []) entry exit replies held → text ≡ picture_of exit.memory.state held
-    → Draws status.Done (outside (Some lines) 0 (Some []) 0 entry) (outside (Some []) 0 (Some text) 0 exit)
-pictured lines entry exit replies held text run same =
-    ran_done RunsToPicture lines entry exit replies held text run
-    (drawn _ _ run.calls replies held Writes text run.runs refl same)
 
 pub picture_done : (lines : List ℕ) (before after : Source) (entry exit : Memory) (text : List ℕ) → entry ≡ (new_arena before).memory
-    → Draws status.Done (outside (Some lines) 0 (Some []) 0 (view entry before)) (outside (Some []) 0 (Some text) 0 (view exit after))
-    → Yields Draws lines before after status.Done text
-picture_done lines before after entry exit text new ends = record {
+    → ((budget : ℕ) (refuse : List ℕ) → before ≡ limited budget refuse
+    → DrawsWithin budget refuse status.Done (outside (Some lines) 0 (Some []) 0 (view entry before)) (outside (Some []) 0 (Some text) 0 (view exit after)))
+    → YieldsWithin DrawsWithin lines before after status.Done text
+picture_done lines before after entry exit text new drawn budget refuse limits = record {
   left = Some [];
   memory = exit;
-  ends = subst (λ (m : Memory). Draws status.Done (outside (Some lines) 0 (Some []) 0 (view m before)) (outside (Some []) 0 (Some text) 0 (view exit after)))
-      new ends;
+  ends = subst (λ (m : Memory). DrawsWithin budget refuse status.Done (outside (Some lines) 0 (Some []) 0 (view m before))
+      (outside (Some []) 0 (Some text) 0 (view exit after))) new (drawn budget refuse limits);
 }
 
--- ---- Calls from a number, over a new arena and to an output that had taken nothing
+-- a picture, or why there is none
+module _ {T : Type 0} (items : T → List ℕ) (lines : List ℕ) (before after : Source) (entry exit : Memory) (new : entry ≡ (new_arena before).memory) where
+  pub picture_or : (result : Result T Status) → ((budget : ℕ) (refuse : List ℕ) → before ≡ limited budget refuse
+      → IfOk result (λ text. DrawsWithin budget refuse status.Done (outside (Some lines) 0 (Some []) 0 (view entry before))
+      (outside (Some []) 0 (Some (items text)) 0 (view exit after))))
+      → IfOk result (λ text. YieldsWithin DrawsWithin lines before after status.Done (items text))
+  picture_or (Ok text) drawn = picture_done lines before after entry exit (items text) new drawn
+  picture_or (Err end) drawn = tt
 
-module _ (start count : ℕ) (before after : Source) (entry exit : Memory) (text : List ℕ) (faults : ℕ) where
-  abbrev GenRuns : Status → Memory → ℕ → Type 0
-  GenRuns end m n =
-      GenEnds start count end (outside (Some []) 0 (Some []) 0 (view m before)) (outside (Some []) 0 (Some text) n (view exit after))
+  pub or_no_picture : (result : Result T Status) → IfErr result (λ end. YieldsNothing end lines (view entry before) (view exit after))
+      → IfErr result (λ end. is_done end ≡ false) → IfErr result (λ end. YieldsWithin DrawsWithin lines before after end [])
+  or_no_picture (Ok text) none other = tt
+  or_no_picture (Err end) none other = no_picture lines before after entry exit end new other none
 
-  abbrev Given : Status → Option (List ℕ) → ℕ → Type 0
-  Given end written n =
-      (left : Option (List ℕ)) (reads : ℕ) → GenEnds start count end (outside left reads written n (view entry before))
-      (outside left reads (Some text) faults (view exit after))
+-- ---- Calls from a number, over a new arena
 
-  -- the summary was written
-  pub generated : (written : Option (List ℕ)) (n : ℕ) → entry ≡ (new_arena before).memory → written ≡ Some [] → n ≡ 0
-      → Given status.Done written n → Yields (GenEnds start count) [] before after status.Done text
-  generated written n new none zero given =
-      let ends = rw (none, zero) at given (Some []) 0 in
-      let same : faults ≡ 0 = ends.0.writes in
+module _ (start count : ℕ) (before after : Source) (entry exit : Memory) (new : entry ≡ (new_arena before).memory) where
+  pub generated : (replies : List Reply) (held : List (ℕ × Block)) (text : List ℕ)
+      → Runs (view entry before) (view exit after) (gen_calls start count) replies held
+      → KeepsThose before entry.state (gen_calls start count) replies → text ≡ summary_lines replies exit.state
+      → YieldsWithin (GenWithin start count) [] before after status.Done text
+  generated replies held text runs keeps same budget refuse limits =
+      let run = rw new at runs in
+      let kept = keeps budget refuse limits in
       record {
         left = Some [];
         memory = exit;
-        ends = subst (λ (m : Memory). GenRuns status.Done m 0) new (subst (λ (k : ℕ). GenRuns status.Done entry k) same ends);
+        ends = (
+          (
+            record { reads = refl; writes = refl },
+            refl,
+            record { replies = replies; blocks = held; runs = run; written = rw (← same) refl },
+          ),
+          rw new at kept,
+        );
       }
 
-  -- memory ran out, also for the summary
-  pub not_generated : (end : Status) (written : Option (List ℕ)) (n : ℕ) → entry ≡ (new_arena before).memory → (end ≡ status.Done → ⊥)
-      → Given end written n → Yields (GenEnds start count) [] before after status.OutOfMemory []
-  not_generated end written n new other given = record {
-    left = Some [];
-    memory = exit;
-    ends = subst (λ (m : Memory). GenEnds start count status.OutOfMemory (outside (Some []) 0 (Some []) 0 (view m before)) (outside (Some []) 0 (Some []) 0 (view exit after)))
-        new (stops end other (given (Some []) 0));
-  }
-    where
-      stops : (end : Status) → (end ≡ status.Done → ⊥)
-          → GenEnds start count end (outside (Some []) 0 written n (view entry before)) (outside (Some []) 0 (Some text) faults (view exit after))
-          → GenEnds start count status.OutOfMemory (outside (Some []) 0 (Some []) 0 (view entry before))
-          (outside (Some []) 0 (Some []) 0 (view exit after))
-      stops status.Done other ends = absurd (other refl)
-      stops status.WriteFault other ends = (
-        record { reads = refl; writes = refl },
-        refl,
-        inr (record {
-          done = length (gen_calls start count);
-          runs = first_all (view entry before) (view exit after) (gen_calls start count) ends.2.replies ends.2.blocks ends.2.runs;
-          written = refl;
-        }),
-      )
-      stops status.OutOfMemory other ends = (
-        record { reads = refl; writes = refl },
-        refl,
-        elim ends.2 [
-          | inl same ↦ inl (record { arena = same.arena; written = refl })
-          | inr stopped ↦ inr (record { done = stopped.done; runs = stopped.runs; written = refl })
-        ],
-      )
-      stops status.Usage other ends = absurd ends.2
-      stops (status.BadLine n) other ends = absurd ends.2
-      stops status.ReadFault other ends = absurd ends.2
-      stops status.InputTooLong other ends = absurd ends.2
+  -- memory ran out
+  pub not_generated : StopsEarly (view entry before) (view exit after) (gen_calls start count)
+      → YieldsWithin (GenWithin start count) [] before after status.OutOfMemory []
+  not_generated stops budget refuse limits =
+      let early = rw new at stops in
+      record {
+        left = Some [];
+        memory = exit;
+        ends = (
+          record { reads = refl; writes = refl },
+          refl,
+          elim early [
+            | inl same ↦ inl (record { arena = same; written = refl })
+            | inr first ↦ inr (record { done = first.0; runs = first.1; written = refl })
+          ],
+        );
+      }
+
+  -- or it ran out for the summary
+  pub not_begun : exit ≡ entry → after ≡ before → YieldsWithin (GenWithin start count) [] before after status.OutOfMemory []
+  not_begun same source = not_generated (inl (rw (same, source) refl))

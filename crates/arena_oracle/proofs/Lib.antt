@@ -1,5 +1,5 @@
 pub mod LimitLemmas
+pub mod ReportLemmas
+pub mod TurnLemmas
 pub mod EndLemmas
-pub mod AskedLemmas
-pub mod KeptLemmas
-pub mod SourceLemmas
+pub mod ReturnLemmas

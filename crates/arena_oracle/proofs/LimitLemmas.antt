@@ -1,52 +1,77 @@
--- One more request, answered within the limits and noted.
-use Rattle.std.proofs.Common.{◌≡◌, ℕ, ◌+◌, ◌-◌, true, false, refl, sym, ap, ◌∙◌, arith, IsTrue, Option, List, [], ◌∷◌, ◌++◌, length, map, append_assoc}
-use Rattle.std.proofs.lemmas.Bool.{and_parts}
-use Rattle.std.proofs.lemmas.List.{map-append}
+-- One more request, and what the limits make of it.
+use Rattle.std.proofs.Common.{◌≡◌, ℕ, ◌+◌, ◌-◌, ◌≤◌, Bool, true, false, refl, sym, ◌∙◌, arith, Option, List, [], ◌∷◌, ◌++◌, length, append_assoc}
+use Rattle.std.specs.Prelude.{if◌then◌else◌}
 use Rattle.arena_rules.specs.Causes.{TellsRequests}
-use Rattle.arena_oracle.specs.Limits.{is_allowed, is_answer, is_within, left_of, taken_by, refusals_of, one_refusal, exhausted_of, one_exhausted, given, request_of, reported}
-use Rattle.arena_oracle.specs.declared.requests.Request.{Request}
+use Rattle.arena_oracle.specs.Limits.{is_allowed, left_behind, one_refusal, left_of, refusals_of, given, reported}
 
 -- the requests from the n-th on, and the k-th behind them
-within_at : (refuse : List ℕ) (n left k : ℕ) (served : List Request) (r : Request) → k ≡ n + length served
-    → IsTrue (is_within refuse n left served) → IsTrue (is_answer (is_allowed refuse k (left_of left served) r.size) r.answer)
-    → IsTrue (is_within refuse n left (served ++ r ∷ []))
-within_at refuse n left k [] r at within next =
+left_at : (refuse : List ℕ) (n left k : ℕ) (requests : List (ℕ × ℕ)) (r : ℕ × ℕ) → k ≡ n + length requests
+    → left_of refuse n left (requests ++ r ∷ []) ≡ left_behind refuse k (left_of refuse n left requests) r.0
+left_at refuse n left k [] r at =
     let same : k ≡ n = omega (arith, at) in
-    let last : IsTrue (is_answer (is_allowed refuse n left r.size) r.answer) = rw same at next in
-    rw last refl
-within_at refuse n left k (x ∷ rest) r at within next =
-    let parts = and_parts (is_answer (is_allowed refuse n left x.size) x.answer)
-    (is_within refuse (n + 1) (left - taken_by x.answer x.size) rest) within in
-    rw parts.0 (within_at refuse (n + 1) (left - taken_by x.answer x.size) k rest r (omega (arith, at)) parts.1 next)
+    rw same refl
+left_at refuse n left k (x ∷ rest) r at = left_at refuse (n + 1) (left_behind refuse n left x.0) k rest r (omega (arith, at))
 
-pub within_noted : (refuse : List ℕ) (budget left : ℕ) (served : List Request) (r : Request) → IsTrue (is_within refuse 1 budget served)
-    → left ≡ left_of budget served → IsTrue (is_answer (is_allowed refuse (length served + 1) left r.size) r.answer)
-    → IsTrue (is_within refuse 1 budget (served ++ r ∷ []))
-within_noted refuse budget left served r within is next =
-    within_at refuse 1 budget (length served + 1) served r (omega arith) within (rw is at next)
+refusals_at : (refuse : List ℕ) (n left k : ℕ) (requests : List (ℕ × ℕ)) (r : ℕ × ℕ) → k ≡ n + length requests
+    → refusals_of refuse n left (requests ++ r ∷ []) ≡ refusals_of refuse n left requests + one_refusal refuse k (left_of refuse n left requests) r.0
+refusals_at refuse n left k [] r at =
+    let same : k ≡ n = omega (arith, at) in
+    rw same (omega arith)
+refusals_at refuse n left k (x ∷ rest) r at =
+    let more = refusals_at refuse (n + 1) (left_behind refuse n left x.0) k rest r (omega (arith, at)) in
+    omega (arith, more)
 
-pub left_noted : (left : ℕ) (served : List Request) (r : Request) → left_of left (served ++ r ∷ []) ≡ left_of left served - taken_by r.answer r.size
-left_noted left [] r = refl
-left_noted left (x ∷ rest) r = left_noted (left - taken_by x.answer x.size) rest r
+one_most : (b : Bool) → (if b then 0 else 1) ≤ 1
+one_most true = omega arith
+one_most false = omega arith
 
-pub refusals_noted : (served : List Request) (r : Request) → refusals_of (served ++ r ∷ []) ≡ refusals_of served + one_refusal r.answer
-refusals_noted [] r = omega arith
-refusals_noted (x ∷ rest) r = let more = refusals_noted rest r in omega (arith, more)
+pub refusals_most : (refuse : List ℕ) (n left : ℕ) (requests : List (ℕ × ℕ)) → refusals_of refuse n left requests ≤ length requests
+refusals_most refuse n left [] = omega arith
+refusals_most refuse n left (x ∷ rest) =
+    let one = one_most (is_allowed refuse n left x.0) in
+    let more = refusals_most refuse (n + 1) (left_behind refuse n left x.0) rest in
+    omega (arith, one, more)
 
-pub exhausted_noted : (served : List Request) (r : Request) → exhausted_of (served ++ r ∷ []) ≡ exhausted_of served + one_exhausted r.answer
-exhausted_noted [] r = omega arith
-exhausted_noted (x ∷ rest) r = let more = exhausted_noted rest r in omega (arith, more)
+module _ (refuse : List ℕ) (budget left refused size align : ℕ) (requests : List (ℕ × ℕ)) where
+  -- one that the limits allow, and one that they refuse
+  pub left_allowed : left ≡ left_of refuse 1 budget requests → is_allowed refuse (length requests + 1) left size ≡ true
+      → left - size ≡ left_of refuse 1 budget (requests ++ (size, align) ∷ [])
+  left_allowed is allowed =
+      let here = rw is at allowed in
+      sym (left_at refuse 1 budget (length requests + 1) requests (size, align) (omega arith) ∙ rw (here, is) refl)
+
+  pub left_refused : left ≡ left_of refuse 1 budget requests → is_allowed refuse (length requests + 1) left size ≡ false
+      → left ≡ left_of refuse 1 budget (requests ++ (size, align) ∷ [])
+  left_refused is not_allowed =
+      let here = rw is at not_allowed in
+      sym (left_at refuse 1 budget (length requests + 1) requests (size, align) (omega arith) ∙ rw (here, is) refl)
+
+  pub refusals_allowed : left ≡ left_of refuse 1 budget requests → refused ≡ refusals_of refuse 1 budget requests
+      → is_allowed refuse (length requests + 1) left size ≡ true
+      → refused ≡ refusals_of refuse 1 budget (requests ++ (size, align) ∷ [])
+  refusals_allowed is same allowed =
+      let here = rw is at allowed in
+      let more = refusals_at refuse 1 budget (length requests + 1) requests (size, align) (omega arith) in
+      let one : one_refusal refuse (length requests + 1) (left_of refuse 1 budget requests) size ≡ 0 = rw here refl in
+      omega (arith, same, more, one)
+
+  pub refusals_refused : left ≡ left_of refuse 1 budget requests → refused ≡ refusals_of refuse 1 budget requests
+      → is_allowed refuse (length requests + 1) left size ≡ false
+      → refused + 1 ≡ refusals_of refuse 1 budget (requests ++ (size, align) ∷ [])
+  refusals_refused is same not_allowed =
+      let here = rw is at not_allowed in
+      let more = refusals_at refuse 1 budget (length requests + 1) requests (size, align) (omega arith) in
+      let one : one_refusal refuse (length requests + 1) (left_of refuse 1 budget requests) size ≡ 1 = rw here refl in
+      omega (arith, same, more, one)
 
 -- it is what is reported more
-pub reports_noted : (budget : ℕ) (refuse : List ℕ) (served : List Request) (r : Request)
-    → TellsRequests (reported false budget refuse served) (reported false budget refuse (served ++ r ∷ [])) (request_of r ∷ [])
-reports_noted budget refuse served r =
-    ap (λ (l : List (ℕ × ℕ)). given budget refuse ++ l) (map-append request_of served (r ∷ []))
-    ∙ sym (append_assoc (given budget refuse) (map request_of served) (request_of r ∷ []))
+pub reports_more : (budget : ℕ) (refuse : List ℕ) (requests : List (ℕ × ℕ)) (r : ℕ × ℕ)
+    → TellsRequests (reported false budget refuse requests) (reported false budget refuse (requests ++ r ∷ [])) (r ∷ [])
+reports_more budget refuse requests r = sym (append_assoc (given budget refuse) requests (r ∷ []))
 
--- one that is lost isn't reported, nor are those before it
-pub reports_lost : (before : Option (List (ℕ × ℕ))) (budget : ℕ) (refuse : List ℕ) (served : List Request) (added : List (ℕ × ℕ))
-    → TellsRequests before (reported true budget refuse served) added
-reports_lost before budget refuse served added = tt
+-- where memory has run out, nothing is reported
+pub reports_none : (before : Option (List (ℕ × ℕ))) (budget : ℕ) (refuse : List ℕ) (requests added : List (ℕ × ℕ))
+    → TellsRequests before (reported true budget refuse requests) added
+reports_none before budget refuse requests added = tt
 
-pub ruleset note_laws = (within_noted, left_noted, refusals_noted, exhausted_noted, reports_noted, reports_lost)
+pub ruleset request_laws = (left_allowed, left_refused, refusals_allowed, refusals_refused, refusals_most, reports_more, reports_none)

@@ -4,20 +4,18 @@
 
 ghost use Rattle.std.specs.Prelude.{◌≡◌, ◌<◌, ℕ, List, [], length};
 ghost use Rattle.arena_store.specs.Source.{Source};
-ghost use Rattle.arena_calls.specs.Ends.{Ends, GenEnds};
 ghost use Rattle.arena_calls.specs.ReadAll.{limit};
 ghost use Rattle.arena_calls.specs.declared.status.Status.{Status};
-ghost use Rattle.arena_drawing.specs.Ends.{Draws};
 ghost use Rattle.arena_oracle.specs.Limits.{limited};
-ghost use Rattle.arena_oracle.specs.Answers.{Yields, KeepsLimits, IsReturned};
+ghost use Rattle.arena_oracle.specs.Answers.{CallsWithin, DrawsWithin, GenWithin, Yields, IsReturned};
 
 mod report;
-mod requests;
 mod returning;
 mod runs;
 mod source;
 #[cfg(test)]
 mod tests;
+mod within;
 
 use crate::returning::return_text;
 use crate::runs::{draw_text, gen_text, run_text};
@@ -27,8 +25,9 @@ pub use report::Report;
 use std::alloc::Global;
 
 /// Runs lines of calls over a new arena, and puts the text of their replies at the front of `out`, if it has room for
-/// all of it. Requests for chunks beyond `budget` bytes in all, and those whose numbers, from 1, are listed, are refused.
-/// Returns the exit status of the program for the word `calls`, or 7 where the text has no room.
+/// all of it. Just the requests for chunks beyond `budget` bytes in all, and those whose numbers, from 1, are listed, are
+/// refused. Returns the exit status of the program for the word `calls`, or 7 where the text has no room. If memory runs
+/// out, also for a chunk within the limits, that is 3.
 #[unsafe(no_mangle)]
 pub extern "C" fn arena_oracle_calls(
     alloc: Global,
@@ -38,16 +37,15 @@ pub extern "C" fn arena_oracle_calls(
     out: &mut [u8],
     report: &mut Report,
 ) -> u32
-    ensures ends { (status : Status) × (text : List ℕ) × (after : Source) × (exhausted : ℕ)
-        × Yields Ends lines.now (limited budget refuse.now) after status text
-        × KeepsLimits budget refuse.now status after exhausted
-        × IsReturned status text after.refusals exhausted out.old out.new report.new result }
+    ensures ends { (status : Status) × (text : List ℕ) × (after : Source)
+        × Yields (CallsWithin budget refuse.now) lines.now (limited budget refuse.now) after status text
+        × IsReturned status text after.refusals out.old out.new report.new result }
     ensures long { limit < length lines.now → result ≡ 6 }
 {
     let mut chunks = ListedChunks::new(alloc, budget, refuse);
     match run_text(alloc, lines, &mut chunks) {
-        Ok(text) => return_text(&Status::Done, text.as_slice(), &chunks, out, report),
-        Err(status) => return_text(&status, b"", &chunks, out, report),
+        Ok(text) => return_text(&Status::Done, text.as_slice(), chunks.refused, out, report),
+        Err(status) => return_text(&status, b"", chunks.refused, out, report),
     }
 }
 
@@ -63,15 +61,14 @@ pub extern "C" fn arena_oracle_gen(
     out: &mut [u8],
     report: &mut Report,
 ) -> u32
-    ensures { (status : Status) × (text : List ℕ) × (after : Source) × (exhausted : ℕ)
-        × Yields (GenEnds start count) [] (limited budget refuse.now) after status text
-        × KeepsLimits budget refuse.now status after exhausted
-        × IsReturned status text after.refusals exhausted out.old out.new report.new result }
+    ensures { (status : Status) × (text : List ℕ) × (after : Source)
+        × Yields (GenWithin start count budget refuse.now) [] (limited budget refuse.now) after status text
+        × IsReturned status text after.refusals out.old out.new report.new result }
 {
     let mut chunks = ListedChunks::new(alloc, budget, refuse);
     match gen_text(alloc, start, count as usize, &mut chunks) {
-        Ok(output) => return_text(&Status::Done, output.bytes(), &chunks, out, report),
-        Err(status) => return_text(&status, b"", &chunks, out, report),
+        Ok(text) => return_text(&Status::Done, text.as_slice(), chunks.refused, out, report),
+        Err(status) => return_text(&status, b"", chunks.refused, out, report),
     }
 }
 
@@ -85,15 +82,14 @@ pub extern "C" fn arena_oracle_draw(
     out: &mut [u8],
     report: &mut Report,
 ) -> u32
-    ensures ends { (status : Status) × (text : List ℕ) × (after : Source) × (exhausted : ℕ)
-        × Yields Draws lines.now (limited budget refuse.now) after status text
-        × KeepsLimits budget refuse.now status after exhausted
-        × IsReturned status text after.refusals exhausted out.old out.new report.new result }
+    ensures ends { (status : Status) × (text : List ℕ) × (after : Source)
+        × Yields (DrawsWithin budget refuse.now) lines.now (limited budget refuse.now) after status text
+        × IsReturned status text after.refusals out.old out.new report.new result }
     ensures long { limit < length lines.now → result ≡ 6 }
 {
     let mut chunks = ListedChunks::new(alloc, budget, refuse);
     match draw_text(alloc, lines, &mut chunks) {
-        Ok(text) => return_text(&Status::Done, text.as_slice(), &chunks, out, report),
-        Err(status) => return_text(&status, b"", &chunks, out, report),
+        Ok(text) => return_text(&Status::Done, text.as_slice(), chunks.refused, out, report),
+        Err(status) => return_text(&status, b"", chunks.refused, out, report),
     }
 }

@@ -8,8 +8,6 @@ pub struct Report {
     pub length: u64,
     /// The number, from 1, of the line that is refused, or 0.
     pub line: u64,
-    /// How many requests for chunks weren't granted.
+    /// How many requests for chunks weren't granted: with code 0, those that the limits refuse.
     pub refused: u64,
-    /// With code 0, for how many of these memory ran out. If 0, as many were refused as the limits refuse.
-    pub exhausted: u64,
 }

@@ -1,16 +1,19 @@
 // Runs over a new arena, with bytes in memory.
-ghost use Rattle.std.specs.Prelude.{◌≡◌, ◌<◌, ℕ, false, List, [], length, Some, IfOk, IfErr, IsErrAnd};
+ghost use Rattle.std.specs.Prelude.{◌≡◌, ℕ, ◌<◌, false, List, [], length, Some, IfOk, IfErr, IsErrAnd};
 ghost use Rattle.call_rules.specs.declared.calls.Reply.{Reply};
 ghost use Rattle.arena_store.specs.Source.{view};
 ghost use Rattle.arena_chunks.specs.Runs.Replies.{TakesMore};
-ghost use Rattle.arena_calls.specs.Ends.{Ends, GenEnds, RunsInput, outside};
+ghost use Rattle.arena_calls.specs.Ends.{RunsInput, outside};
 ghost use Rattle.arena_calls.specs.ReadAll.{limit};
 ghost use Rattle.arena_calls.specs.declared.status.Status.{Status};
-ghost use Rattle.arena_drawing.specs.Ends.{Draws};
-ghost use Rattle.arena_oracle.specs.Answers.{Yields, YieldsNothing, is_done, text_in};
+ghost use Rattle.arena_oracle.specs.Limits.{KeepsThose, limited};
+ghost use Rattle.arena_oracle.specs.Sources.{source_of};
+ghost use Rattle.arena_oracle.specs.Answers.{CallsWithin, DrawsWithin, GenWithin, YieldsWithin, YieldsNothing, is_done};
 
-use arena_calls::{LinesErr, MemoryOutput, Output, Status, Text, parse_calls, run_generated};
-use arena_chunks::{Arena, Block, ChunkSource, Replies, run_calls_into};
+use crate::source::ListedChunks;
+use crate::within::{run_calls_within, run_generated_within};
+use arena_calls::{LinesErr, Status, Text, parse_calls, put_summary, room_for_text};
+use arena_chunks::{Arena, Block};
 use arena_drawing::picture_of;
 use std::alloc::Global;
 
@@ -19,19 +22,20 @@ const LIMIT: usize = 16_777_216;
 
 // Runs lines of calls over an arena. Returns the blocks that names hold afterwards, or the status of a run that has
 // nothing to write.
-fn run_lines<C: ChunkSource>(
+fn run_lines(
     alloc: Global,
     lines: &[u8],
     arena: &mut Arena<1>,
-    chunks: &mut C,
+    chunks: &mut ListedChunks,
     text: &mut Text,
 ) -> Result<Vec<(u32, Block)>, Status>
     ensures ok { IfOk result (λ held. (list : List Reply)
-        × RunsInput (Some lines.now) (Some [])
-        (view arena.old (C.source chunks.old)) (view arena.new (C.source chunks.new)) list held.items
+        × (run : RunsInput (Some lines.now) (Some [])
+        (view arena.old (source_of chunks.old)) (view arena.new (source_of chunks.new)) list held.items)
+        × KeepsThose (source_of chunks.old) arena.old.state run.calls list
         × TakesMore (⟦<Text as Replies>⟧.has_taken) text.old text.new list) }
     ensures err { IfErr result (λ status. YieldsNothing status lines.now
-        (view arena.old (C.source chunks.old)) (view arena.new (C.source chunks.new))) }
+        (view arena.old (source_of chunks.old)) (view arena.new (source_of chunks.new))) }
     ensures undone { IfErr result (λ status. is_done status ≡ false) }
     ensures long { limit < length lines.now → IsErrAnd result (λ status. status ≡ Status.InputTooLong) }
 {
@@ -43,7 +47,7 @@ fn run_lines<C: ChunkSource>(
         Err(LinesErr::BadLine(n)) => return Err(Status::BadLine(n)),
         Err(LinesErr::OutOfMemory) => return Err(Status::OutOfMemory),
     };
-    match run_calls_into(alloc, arena, chunks, calls.as_slice(), text) {
+    match run_calls_within(alloc, arena, chunks, calls.as_slice(), text) {
         Ok(held) => Ok(held),
         Err(_) => Err(Status::OutOfMemory),
     }
@@ -54,16 +58,11 @@ fn run_lines<C: ChunkSource>(
 /// # Errors
 ///
 /// The status of a run that has nothing to write.
-pub fn run_text<C: ChunkSource>(
-    alloc: Global,
-    lines: &[u8],
-    chunks: &mut C,
-) -> Result<Vec<u8>, Status>
+pub fn run_text(alloc: Global, lines: &[u8], chunks: &mut ListedChunks) -> Result<Vec<u8>, Status>
     ensures ok { IfOk result (λ text.
-        Yields Ends lines.now (C.source chunks.old) (C.source chunks.new) Status.Done text.items) }
+        YieldsWithin CallsWithin lines.now (source_of chunks.old) (source_of chunks.new) Status.Done text.items) }
     ensures err { IfErr result (λ status.
-        Yields Ends lines.now (C.source chunks.old) (C.source chunks.new) status []) }
-    ensures undone { IfErr result (λ status. is_done status ≡ false) }
+        YieldsWithin CallsWithin lines.now (source_of chunks.old) (source_of chunks.new) status []) }
     ensures long { limit < length lines.now → IsErrAnd result (λ status. status ≡ Status.InputTooLong) }
 {
     let mut arena = Arena::<1>::new(alloc);
@@ -74,52 +73,51 @@ pub fn run_text<C: ChunkSource>(
     }
 }
 
-/// Runs `count` calls from `start` over a new arena, and returns an output that has their summary.
+/// Runs `count` calls from `start` over a new arena, and returns their summary.
 ///
 /// # Errors
 ///
 /// Out of memory.
-pub fn gen_text<C: ChunkSource>(
+pub fn gen_text(
     alloc: Global,
     start: u64,
     count: usize,
-    chunks: &mut C,
-) -> Result<MemoryOutput, Status>
-    ensures ok { IfOk result (λ output.
-        Yields (GenEnds start count) [] (C.source chunks.old) (C.source chunks.new) Status.Done
-        (text_in (⟦<MemoryOutput as Output>⟧.written output))) }
+    chunks: &mut ListedChunks,
+) -> Result<Vec<u8>, Status>
+    ensures ok { IfOk result (λ text.
+        YieldsWithin (GenWithin start count) [] (source_of chunks.old) (source_of chunks.new) Status.Done text.items) }
     ensures err { IfErr result (λ status.
-        Yields (GenEnds start count) [] (C.source chunks.old) (C.source chunks.new) status []) }
-    ensures undone { IfErr result (λ status. is_done status ≡ false) }
+        YieldsWithin (GenWithin start count) [] (source_of chunks.old) (source_of chunks.new) status []) }
 {
     let mut arena = Arena::<1>::new(alloc);
-    let mut output = MemoryOutput::new(alloc, u32::MAX, Vec::new(alloc));
-    match run_generated(alloc, start, count, &mut arena, chunks, &mut output) {
-        Status::Done => Ok(output),
-        _ => Err(Status::OutOfMemory),
-    }
+    let Ok(mut text) = room_for_text(alloc) else {
+        return Err(Status::OutOfMemory);
+    };
+    let Ok(tally) = run_generated_within(alloc, start, count, &mut arena, chunks) else {
+        return Err(Status::OutOfMemory);
+    };
+    put_summary(&tally, &arena, &mut text);
+    Ok(text)
 }
 
 // Runs lines of calls over an arena, and returns the picture of the arena afterwards.
-fn draw_over<C: ChunkSource>(
+fn draw_over(
     alloc: Global,
     lines: &[u8],
     arena: &mut Arena<1>,
-    chunks: &mut C,
+    chunks: &mut ListedChunks,
 ) -> Result<Vec<u8>, Status>
-    ensures ok { IfOk result (λ text. Draws Status.Done
-        (outside (Some lines.now) 0 (Some []) 0 (view arena.old (C.source chunks.old)))
-        (outside (Some []) 0 (Some text.items) 0 (view arena.new (C.source chunks.new)))) }
+    ensures ok { (budget : ℕ) (refuse : List ℕ) → source_of chunks.old ≡ limited budget refuse
+        → IfOk result (λ text. DrawsWithin budget refuse Status.Done
+        (outside (Some lines.now) 0 (Some []) 0 (view arena.old (source_of chunks.old)))
+        (outside (Some []) 0 (Some text.items) 0 (view arena.new (source_of chunks.new)))) }
     ensures err { IfErr result (λ status. YieldsNothing status lines.now
-        (view arena.old (C.source chunks.old)) (view arena.new (C.source chunks.new))) }
+        (view arena.old (source_of chunks.old)) (view arena.new (source_of chunks.new))) }
     ensures undone { IfErr result (λ status. is_done status ≡ false) }
     ensures long { limit < length lines.now → IsErrAnd result (λ status. status ≡ Status.InputTooLong) }
 {
     let mut replies = Text::new(alloc);
-    let held = match run_lines(alloc, lines, arena, chunks, &mut replies) {
-        Ok(held) => held,
-        Err(status) => return Err(status),
-    };
+    let held = run_lines(alloc, lines, arena, chunks, &mut replies)?;
     match picture_of(alloc, arena, held.as_slice()) {
         Ok(text) => Ok(text),
         Err(_) => Err(Status::OutOfMemory),
@@ -131,16 +129,11 @@ fn draw_over<C: ChunkSource>(
 /// # Errors
 ///
 /// The status of a run that has nothing to write.
-pub fn draw_text<C: ChunkSource>(
-    alloc: Global,
-    lines: &[u8],
-    chunks: &mut C,
-) -> Result<Vec<u8>, Status>
+pub fn draw_text(alloc: Global, lines: &[u8], chunks: &mut ListedChunks) -> Result<Vec<u8>, Status>
     ensures ok { IfOk result (λ text.
-        Yields Draws lines.now (C.source chunks.old) (C.source chunks.new) Status.Done text.items) }
+        YieldsWithin DrawsWithin lines.now (source_of chunks.old) (source_of chunks.new) Status.Done text.items) }
     ensures err { IfErr result (λ status.
-        Yields Draws lines.now (C.source chunks.old) (C.source chunks.new) status []) }
-    ensures undone { IfErr result (λ status. is_done status ≡ false) }
+        YieldsWithin DrawsWithin lines.now (source_of chunks.old) (source_of chunks.new) status []) }
     ensures long { limit < length lines.now → IsErrAnd result (λ status. status ≡ Status.InputTooLong) }
 {
     let mut arena = Arena::<1>::new(alloc);

@@ -31,12 +31,12 @@ const HELP: &str = "\
 Runs calls on a bump arena, or scripts on arenas of a pool, and prints their replies; or lints sources.
 
 usage: arena_run calls              reads a call from each line of standard input
-       arena_run gen START COUNT    makes so many calls from a number, and prints a summary
+       arena_run gen START COUNT    runs COUNT pseudo-random calls from the seed START, and prints a summary
        arena_run scripts WORKERS    reads scripts, and runs them on 1 to 64 threads
        arena_run scripts WORKERS fixed BYTES ARENAS
-                                    each on one of so many arenas over so many bytes
+                                    each on one of ARENAS arenas of BYTES bytes
        arena_run scripts WORKERS keep BYTES
-                                    keeps an arena for reuse only if it has at most so many bytes
+                                    keeps an arena for reuse only if it has at most BYTES bytes
        arena_run lint WORKERS       reads sources, and reports what 1 to 64 threads find in them
        arena_run --help             prints this text
        arena_run --version          prints the version
@@ -47,8 +47,8 @@ calls: alloc NAME SIZE ALIGN FILL
        dealloc NAME
        write NAME AT HEX      HEX is two digits for each byte, or - for none
        read NAME
-       mark NAME              names the present state
-       back NAME              gives back all that was placed since the mark
+       mark NAME              saves a checkpoint
+       back NAME              rolls back to it, freeing what was placed since
        reset
        used
        allocated
@@ -63,7 +63,7 @@ a script: script, and then its commands
        len N, show N, copy N M, drop N
 
 sources: separated by lines %%, each gets a report
-       let NAME = EXPR;  EXPR;  { .. }                            what stands in one
+       let NAME = EXPR;  EXPR;  { .. }                            its statements
 ";
 
 const VERSION: &str = "arena_run 0.1.0\n";

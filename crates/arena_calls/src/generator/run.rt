@@ -9,7 +9,7 @@ ghost use Rattle.arena_calls.specs.Tallies.{IsTally};
 ghost use Rattle.arena_calls.specs.Ends.{outside, GenEnds};
 
 use super::calls::Draws;
-use super::summary::{Summary, room_for_text};
+use super::summary::{put_summary, room_for_text};
 use super::tally::Tally;
 use crate::printing::print;
 use crate::status::Status;
@@ -68,16 +68,6 @@ pub fn run_generated<C: ChunkSource, O: Output>(
     let Ok(tally) = count_replies(alloc, start, count, arena, chunks) else {
         return Status::OutOfMemory;
     };
-    let summary = Summary {
-        calls: tally.calls,
-        placed: tally.placed,
-        failed: tally.failed,
-        other: tally.other,
-        bytes: tally.bytes,
-        byte_sum: tally.byte_sum,
-        used: arena.used_bytes(),
-        allocated: arena.allocated_bytes(),
-    };
-    summary.put_text(&mut text);
+    put_summary(&tally, arena, &mut text);
     print(output, text.as_slice())
 }

@@ -1,17 +1,22 @@
 // The text of a summary.
-ghost use Rattle.std.specs.Prelude.{◌≡◌, ◌+◌, ◌*◌, ◌++◌, ◌≤◌, [], IfOk, length, vec_len, vec_capacity};
+ghost use Rattle.std.specs.Prelude.{◌≡◌, ◌+◌, ◌*◌, ◌++◌, ◌≤◌, List, [], IfOk, length, vec_len, vec_capacity};
 ghost use Rattle.call_rules.specs.Summary.{number_line, summary_text};
+ghost use Rattle.call_rules.specs.declared.calls.Reply.{Reply};
+ghost use Rattle.arena_calls.specs.Ends.{summary_lines};
+ghost use Rattle.arena_calls.specs.Tallies.{IsTally};
 
+use super::tally::Tally;
 use crate::replies::put;
+use arena_chunks::Arena;
 use itoa::Buffer;
 use std::alloc::{AllocError, Global};
 
 // The most bytes that a line has: a word, a space, a number of 128 bits and a line feed.
 const LONGEST: usize = 50;
 
-/// The eight numbers of a summary.
+// The eight numbers of a summary.
 #[derive(Clone, Copy)]
-pub struct Summary {
+pub(crate) struct Summary {
     pub calls: u32,
     pub placed: u32,
     pub failed: u32,
@@ -52,8 +57,8 @@ pub fn room_for_text(alloc: Global) -> Result<Vec<u8>, AllocError>
 impl Summary {
     ghost use Rattle.arena_calls.specs.Tallies.{numbers};
 
-    /// Appends the eight lines, for which there must be room.
-    pub fn put_text(&self, out: &mut Vec<u8>)
+    // Appends the eight lines, for which there must be room.
+    fn put_text(&self, out: &mut Vec<u8>)
         requires { vec_len out.old + 400 ≤ vec_capacity out.old }
         ensures { out.new.items ≡ out.old.items ++ summary_text (numbers self.now) }
     {
@@ -66,4 +71,23 @@ impl Summary {
         put_line(out, b"used", u128::from(self.used));
         put_line(out, b"allocated", u128::from(self.allocated));
     }
+}
+
+/// Appends the summary of the replies in the tally and of the arena after them. There must be room for its text.
+pub fn put_summary(tally: &Tally, arena: &Arena<1>, out: &mut Vec<u8>)
+    requires { vec_len out.old + 400 ≤ vec_capacity out.old }
+    ensures { (replies : List Reply) → IsTally tally.now replies
+        → out.new.items ≡ out.old.items ++ summary_lines replies arena.now.state }
+{
+    let summary = Summary {
+        calls: tally.calls,
+        placed: tally.placed,
+        failed: tally.failed,
+        other: tally.other,
+        bytes: tally.bytes,
+        byte_sum: tally.byte_sum,
+        used: arena.used_bytes(),
+        allocated: arena.allocated_bytes(),
+    };
+    summary.put_text(out);
 }
