@@ -1,5 +1,5 @@
 #!/usr/bin/env python3
-"""Makes what docs/PERFORMANCE.md shows of loops from what bench/all.sh printed, which stands in bench/measured.txt or in the file
+"""Makes what docs/PERFORMANCE.md shows of loops from what bench/all.sh printed, which is in bench/measured.txt or in the file
 that is named: fills the tables of loops and of cost against size, and draws docs/loops.svg and docs/sizes.svg.
 
     bench/page.py [MEASURED]
@@ -18,7 +18,7 @@ HERE, RUST, GRID, TEXT = "#0b6e4f", "#b3541e", "#dddddd", "#222222"
 
 
 def measured(lines):
-    """The nanoseconds of each loop, here and in the Rust crate, by the name and the words behind it."""
+    """The nanoseconds of each loop, here and in the Rust crate, by the name and the words after it."""
     found = {}
     for line in lines:
         name, *numbers = re.split(r"\s{2,}", line.split("  OTHER")[0].strip())

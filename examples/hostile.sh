@@ -144,7 +144,7 @@ static uint32_t hash(uint32_t name) {
     uint64_t joined = (uint64_t)product ^ (uint64_t)(product >> 64);
     return (uint32_t)(joined ^ (joined >> 32));
 }
-// So many names whose hash, modulo a power of two, lies in a narrow band, and begins with seven bits of 0.
+// This many names whose hash, modulo a power of two, lies in a narrow band, and begins with seven bits of 0.
 int main(int count, char **words) {
     uint64_t names = strtoull(words[1], 0, 10), groups = strtoull(words[2], 0, 10), band = names * groups >> 25;
     band += band / 8 + 2;

@@ -6,7 +6,7 @@ TABLE, ELEMENTS = 4, 9
 
 
 def number(data, at):
-    """The number of variable length at this index, and the index behind it."""
+    """The number of variable length at this index, and the index after it."""
     value = shift = 0
     while True:
         byte = data[at]

@@ -1,4 +1,4 @@
-//! Small loops over the real collections. Each line tells the operations of a run,
+//! Small loops over the real collections. Each line has the operations of a run,
 //! the best and the median total of several runs, ns per operation of the best,
 //! and a number that depends on the work alone.
 

@@ -454,7 +454,7 @@ fn numbered(out: &mut Vec<u8>, n: u64) {
 
 #[cfg(feature = "track")]
 fn stats<const M: usize>(arena: &Arena<M>) -> (usize, usize) {
-    // The crate tells them of an `Allocator` alone, which is a transparent `Arena<1>`.
+    // The crate reports them for an `Allocator` alone, which is a transparent `Arena<1>`.
     // The statistics don't depend on the minimum alignment.
     let allocator = std::ptr::from_ref(arena).cast::<oxc_allocator::Allocator>();
     unsafe { &*allocator }.get_allocation_stats()

@@ -17,7 +17,7 @@ use std::{
 
 /// Real address of a chunk less its address by rule.
 pub const OFFSET: u64 = 1 << 44;
-/// Addresses by rule that real memory can stand for.
+/// Real memory is there for addresses by rule below this one.
 pub const SPAN: u64 = 1 << 44;
 /// The size of the chunk footer, by which a request passes the data size.
 pub const FOOTER: u64 = oxc_allocator::Allocator::RAW_MIN_SIZE as u64;
@@ -80,7 +80,7 @@ impl Space {
         unsafe { &mut *self.state.get() }
     }
 
-    /// Runs a call of the arena with chunks from our range, and answers how many
+    /// Runs a call of the arena with chunks from our range, and returns how many
     /// requests were refused in it.
     #[inline]
     pub fn serve<T>(&self, call: impl FnOnce() -> T) -> (T, u32) {

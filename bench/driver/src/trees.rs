@@ -4,14 +4,14 @@ use oxc_allocator::Allocator;
 
 use crate::{bench::timed, lint};
 
-/// A chunk that holds the tree of the text has so many bytes.
+/// The size in bytes of a chunk that has room for the tree of the text.
 const CAPACITY: usize = 1 << 22;
 
-/// How many lines the text has, and how many blocks stand in one another at most.
+/// How many lines the text has, and how deep blocks are nested at most.
 const COUNT: u32 = 700;
 const DEEPEST: u64 = 20;
 
-/// Statements as `bench/lint.sh` makes them: a name stands for each `v`, and a number for each `#`.
+/// Statements as `bench/lint.sh` makes them: each `v` becomes a name, and each `#` a number.
 const STATEMENTS: [&str; 32] = [
     "(((v * (v) * # - (# * # + v + v - v) * v * #)) * (v - (#) * #));",
     "let v = v * (v * # + -# * (v * v + v + v * v * #)) * (v) * -#;",
@@ -91,7 +91,7 @@ fn source() -> String {
     text
 }
 
-/// Parses the text so many times, each after a reset, and adds up its bytes and its statements.
+/// Parses the text that many times, each after a reset, and adds up its bytes and its statements.
 fn parsed(allocator: &mut Allocator, src: &[u8], times: u64) -> u64 {
     let mut number = 0;
     for _ in 0..times {
