@@ -1,5 +1,5 @@
 -- What a call returns.
-use Rattle.std.proofs.Common.{◌≡◌, ℕ, true, arith, grind, List, [], length}
+use Rattle.std.proofs.Common.{◌≡◌, ℕ, true, arith, List, [], length}
 use Rattle.std.specs.Prelude.{nat_le, if◌then◌else◌}
 use Rattle.std.proofs.lemmas.Bool.Decides.{nat_tests}
 use Rattle.arena_calls.specs.declared.status.Status.{Status}

@@ -1,5 +1,5 @@
 -- A source within limits, after each call of a run.
-use Rattle.std.proofs.Common.{◌≡◌, ℕ, ◌+◌, ◌<◌, ◌≤◌, ◌⊎◌, ◌||◌, Bool, true, false, refl, sym, ap, subst, ◌∙◌, arith, grind, inl, inr, List, [], ◌∷◌, ◌++◌, length, take, take_all, sum, eqb-true, append_assoc}
+use Rattle.std.proofs.Common.{◌≡◌, ℕ, ◌+◌, ◌<◌, ◌≤◌, ◌⊎◌, ◌||◌, Bool, true, false, refl, sym, ap, subst, ◌∙◌, arith, inl, inr, List, [], ◌∷◌, ◌++◌, length, take, take_all, sum, eqb-true, append_assoc}
 use Rattle.std.proofs.lemmas.List.{length-append, length-map, map-append, take-append-le}
 use Rattle.arena_rules.specs.State.{State}
 use Rattle.call_rules.specs.Generator.{gen_calls}

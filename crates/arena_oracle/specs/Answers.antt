@@ -19,7 +19,7 @@ abbrev pub Ending : Type 1
 Ending = Status → Outside → Outside → Type 0
 
 -- the same, where this is also true of a run that is done
-abbrev pub Within : (Is : Ending) → ((old new : Outside) → Is Done old new → Type 0) → Ending
+abbrev pub Within : (Is : Ending) → ((old new : Outside) → Is Done old new → Type 0) → Status → Outside → Outside → Type 0
 Within Is Kept Done old new = (ends : Is Done old new) × Kept old new ends
 Within Is Kept status old new = Is status old new
 

@@ -9,7 +9,7 @@ use Rattle.arena_oracle.proofs.TurnLemmas.{KeepsFirst}
 use Rattle.arena_oracle.proofs.within.run_generated_within.Given as goal
 
 abbrev pub invariant-loop-i : goal.invariant-loop-i
-invariant-loop-i g l = record {
+invariant-loop-i l = record {
   list : List Reply;
   running : IsRunning (view l.initial.arena (source_of l.initial.chunks)) (view l.arena (source_of l.chunks))
       l.run.names l.run.marks (gen_calls l.start l.i) list;
