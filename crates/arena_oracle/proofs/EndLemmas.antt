@@ -1,7 +1,6 @@
 -- How runs over a new arena end.
-use Rattle.std.proofs.Common.{◌≡◌, ℕ, ◌+◌, ◌<◌, ◌≤◌, false, List, [], length, take, drop, Option, Some, Result, Ok, Err, refl, sym, subst, arith, inl, inr, take-append-drop, append-nil, length-take-le}
+use Rattle.std.proofs.Common.{◌≡◌, ℕ, ◌+◌, ◌<◌, ◌≤◌, false, List, [], length, take, drop, Some, Result, Ok, Err, refl, sym, subst, arith, inl, inr, take-append-drop, append-nil, length-take-le}
 use Rattle.std.specs.Prelude.{IfOk, IfErr}
-use Rattle.arena_rules.specs.State.{State}
 use Rattle.call_rules.specs.Generator.{gen_calls}
 use Rattle.call_rules.specs.Grammar.{CallsOf}
 use Rattle.call_rules.specs.Replies.{text_of}
@@ -11,14 +10,14 @@ use Rattle.arena_store.specs.Memory.{Memory}
 use Rattle.arena_store.specs.Source.{Source, View, view}
 use Rattle.arena_store.specs.declared.block.Block.{Block}
 use Rattle.arena_chunks.specs.Runs.{Runs}
-use Rattle.arena_calls.specs.Ends.{Outside, IsWritten, Ends, EndsWith, GenEnds, RunsInput, RunsTo, outside, reply_lines, summary_lines}
+use Rattle.arena_calls.specs.Ends.{Outside, IsWritten, EndsWith, RunsInput, RunsTo, outside, reply_lines, summary_lines}
 use Rattle.arena_calls.specs.ReadAll.{limit}
 use Rattle.arena_calls.specs.declared.status.Status.{Status}
 use Rattle.arena_calls.specs.declared.status.Status.TheVariants as status
 use Rattle.arena_calls.proofs.RunLemmas.{unwritten}
-use Rattle.arena_drawing.specs.Ends.{Draws, RunsToPicture, picture_of}
+use Rattle.arena_drawing.specs.Ends.{RunsToPicture, picture_of}
 use Rattle.arena_drawing.proofs.EndLemmas.{first_all, placed}
-use Rattle.arena_oracle.specs.Limits.{KeepsLimits, KeepsThose, limited}
+use Rattle.arena_oracle.specs.Limits.{KeepsThose, limited}
 use Rattle.arena_oracle.specs.Sources.{StopsEarly}
 use Rattle.arena_oracle.specs.Answers.{Ending, Within, CallsWithin, DrawsWithin, GenWithin, Yields, YieldsWithin, YieldsNothing, new_arena, is_done}
 
@@ -129,22 +128,25 @@ module _ (lines : List ℕ) (before after : Source) (entry exit : Memory) (end :
 
 -- ---- The lines were run
 
--- these lines are calls, and they were run
-pub run_is : (lines : List ℕ) (entry exit : View) (calls read : List Call) (replies : List Reply) (held : List (ℕ × Block)) → calls ≡ read
-    → length lines ≤ limit → CallsOf lines (Ok read) → Runs entry exit calls replies held → RunsInput (Some lines) (Some []) entry exit replies held
-run_is lines entry exit calls read replies held same small are runs = record {
-  bytes = lines;
-  told = (refl, refl);
-  small = small;
-  calls = read;
-  lines = are;
-  runs = subst (λ (cs : List Call). Runs entry exit cs replies held) same runs;
-}
-
--- the limits are kept by these calls
-pub keeps_same : (source : Source) (entry : State) (calls read : List Call) (replies : List Reply) → calls ≡ read
-    → KeepsThose source entry calls replies → KeepsThose source entry read replies
-keeps_same source entry calls read replies same keeps = subst (λ (cs : List Call). KeepsThose source entry cs replies) same keeps
+-- these lines are calls, and they were run within the limits
+pub ran_lines : (lines : List ℕ) (entry exit : View) (calls read : List Call) (replies : List Reply) (held : List (ℕ × Block))
+    (Taken : List Reply → Type 0) → calls ≡ read → length lines ≤ limit → CallsOf lines (Ok read) → Runs entry exit calls replies held
+    → KeepsThose entry.source entry.memory.state calls replies → Taken replies
+    → (list : List Reply) × (run : RunsInput (Some lines) (Some []) entry exit list held)
+    × KeepsThose entry.source entry.memory.state run.calls list × Taken list
+ran_lines lines entry exit calls read replies held Taken same small are runs keeps taken = (
+  replies,
+  record {
+    bytes = lines;
+    told = (refl, refl);
+    small = small;
+    calls = read;
+    lines = are;
+    runs = subst (λ (cs : List Call). Runs entry exit cs replies held) same runs;
+  },
+  subst (λ (cs : List Call). KeepsThose entry.source entry.memory.state cs replies) same keeps,
+  taken,
+)
 
 -- a run that is done
 module _ (lines : List ℕ) (entry exit : View) (replies : List Reply) (held : List (ℕ × Block)) (text : List ℕ)

@@ -1,7 +1,7 @@
 -- One more request, and what the limits make of it.
-use Rattle.std.proofs.Common.{◌≡◌, ℕ, ◌+◌, ◌-◌, ◌≤◌, Bool, true, false, refl, sym, ◌∙◌, arith, Option, List, [], ◌∷◌, ◌++◌, length, append_assoc}
-use Rattle.std.specs.Prelude.{if◌then◌else◌}
-use Rattle.arena_rules.specs.Causes.{TellsRequests}
+use Rattle.std.proofs.Common.{◌≡◌, ℕ, ◌+◌, ◌-◌, ◌^◌, ◌<◌, ◌≤◌, Bool, true, false, refl, sym, ◌∙◌, arith, IsTrue, Option, List, [], ◌∷◌, ◌++◌, length, append_assoc, eqb-true, eq-eqb}
+use Rattle.std.specs.Prelude.{◌||◌, ◌==◌, if◌then◌else◌}
+use Rattle.arena_rules.specs.Causes.{TellsRequests, counted}
 use Rattle.arena_oracle.specs.Limits.{is_allowed, left_behind, one_refusal, left_of, refusals_of, given, reported}
 
 -- the requests from the n-th on, and the k-th behind them
@@ -64,6 +64,42 @@ module _ (refuse : List ℕ) (budget left refused size align : ℕ) (requests : 
       let one : one_refusal refuse (length requests + 1) (left_of refuse 1 budget requests) size ≡ 1 = rw here refl in
       omega (arith, same, more, one)
 
+-- a list that grew
+pub pushed : (ok : Bool) (old more new : List (ℕ × ℕ)) → ok ≡ true → new ≡ (if ok then more else old) → new ≡ more
+pushed true old more new is put = put
+pushed false old more new is put = cc
+
+-- what follows from two numbers that are the same, unless e
+by_use : (e : Bool) {m n : ℕ} {b : Bool} → IsTrue (e || m == n) → (m ≡ n → IsTrue b) → IsTrue (e || b)
+by_use true same go = refl
+by_use false same go = go (eqb-true _ _ same)
+
+by_uses : (e : Bool) {m n k j : ℕ} {b : Bool} → IsTrue (e || m == n) → IsTrue (e || k == j) → (m ≡ n → k ≡ j → IsTrue b) → IsTrue (e || b)
+by_uses true same also go = refl
+by_uses false same also go = go (eqb-true _ _ same) (eqb-true _ _ also)
+
+-- So are the facts of a source kept, unless memory has run out.
+module _ (e : Bool) (refuse : List ℕ) (budget left refused size align : ℕ) (requests new : List (ℕ × ℕ))
+    (put : new ≡ requests ++ (size, align) ∷ []) (remains : IsTrue (e || left == left_of refuse 1 budget requests)) where
+  pub remains_allowed : is_allowed refuse (length requests + 1) left size ≡ true → IsTrue (e || left - size == left_of refuse 1 budget new)
+  remains_allowed allowed = by_use e remains (λ is. rw put (eq-eqb _ _ (left_allowed refuse budget left refused size align requests is allowed)))
+
+  pub remains_refused : is_allowed refuse (length requests + 1) left size ≡ false → IsTrue (e || left == left_of refuse 1 budget new)
+  remains_refused other = by_use e remains (λ is. rw put (eq-eqb _ _ (left_refused refuse budget left refused size align requests is other)))
+
+  pub counts_allowed : IsTrue (e || refused == refusals_of refuse 1 budget requests) → is_allowed refuse (length requests + 1) left size ≡ true
+      → IsTrue (e || refused == refusals_of refuse 1 budget new)
+  counts_allowed counts allowed = by_uses e remains counts (λ is same.
+      rw put (eq-eqb _ _ (refusals_allowed refuse budget left refused size align requests is same allowed)))
+
+  pub counts_refused : (risen : ℕ) → risen ≡ counted refused 1 → length requests < 2 ^ 63
+      → IsTrue (e || refused == refusals_of refuse 1 budget requests) → is_allowed refuse (length requests + 1) left size ≡ false
+      → IsTrue (e || risen == refusals_of refuse 1 budget new)
+  counts_refused risen rises few counts other = by_uses e remains counts (λ is same.
+      let one = refusals_refused refuse budget left refused size align requests is same other in
+      let most = refusals_most refuse 1 budget requests in
+      rw put (eq-eqb _ _ (omega (arith, rises, one, same, most, few))))
+
 -- it is what is reported more
 pub reports_more : (budget : ℕ) (refuse : List ℕ) (requests : List (ℕ × ℕ)) (r : ℕ × ℕ)
     → TellsRequests (reported false budget refuse requests) (reported false budget refuse (requests ++ r ∷ [])) (r ∷ [])
@@ -73,5 +109,3 @@ reports_more budget refuse requests r = sym (append_assoc (given budget refuse) 
 pub reports_none : (before : Option (List (ℕ × ℕ))) (budget : ℕ) (refuse : List ℕ) (requests added : List (ℕ × ℕ))
     → TellsRequests before (reported true budget refuse requests) added
 reports_none before budget refuse requests added = tt
-
-pub ruleset request_laws = (left_allowed, left_refused, refusals_allowed, refusals_refused, refusals_most, reports_more, reports_none)

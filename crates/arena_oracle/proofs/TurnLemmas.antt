@@ -1,5 +1,5 @@
 -- A source within limits, after each call of a run.
-use Rattle.std.proofs.Common.{◌≡◌, ℕ, ◌+◌, ◌<◌, ◌≤◌, ◌⊎◌, ◌||◌, Bool, true, false, refl, sym, ap, subst, ◌∙◌, arith, inl, inr, List, [], ◌∷◌, ◌++◌, length, take, take_all, sum, eqb-true, append_assoc}
+use Rattle.std.proofs.Common.{◌≡◌, ℕ, ◌+◌, ◌<◌, ◌≤◌, ◌⊎◌, ◌||◌, Bool, true, false, refl, sym, ap, ◌∙◌, arith, inl, inr, List, [], ◌∷◌, ◌++◌, length, take, take_all, sum, eqb-true, append_assoc}
 use Rattle.std.proofs.lemmas.List.{length-append, length-map, map-append, take-append-le}
 use Rattle.arena_rules.specs.State.{State}
 use Rattle.call_rules.specs.Generator.{gen_calls}
@@ -62,8 +62,8 @@ refused_so_far source chunks k budget made refuse is known asked =
     all ∙ refused ∙ rw (same.0, same.1, same.2) refl
 
 module _ (entry now : View) (chunks : ListedChunks) (names : Held) (noted : Noted) (first : ℕ → List Call) (i : ℕ) (list : List Reply)
-    (reply : Reply) where
-  pub turns_more : now.source ≡ source_of chunks → IsRunning entry now names noted (first (i + 1)) (list ++ reply ∷ [])
+    (reply : Reply) (calls : List Call) (more : first (i + 1) ≡ calls) where
+  pub turns_more : now.source ≡ source_of chunks → IsRunning entry now names noted calls (list ++ reply ∷ [])
       → chunks.exhausted ≡ false → KeepsFirst entry.source entry.memory.state first i list
       → KeepsFirst entry.source entry.memory.state first (i + 1) (list ++ reply ∷ [])
   turns_more here running known before budget refuse is =
@@ -72,12 +72,13 @@ module _ (entry now : View) (chunks : ListedChunks) (names : Held) (noted : Note
       let count : length (told list) ≡ i = length-map list refused_of ∙ was.count in
       let counts : length (told (list ++ reply ∷ [])) ≡ i + 1 =
       length-map (list ++ reply ∷ []) refused_of ∙ length-append list (reply ∷ []) ∙ ap (λ (n : ℕ). n + 1) was.count in
-      let all = refused_so_far entry.source chunks _ budget _ refuse is known (rw here at running.asked) in
+      let asked = running.asked in
+      let all = refused_so_far entry.source chunks _ budget _ refuse is known (rw here at asked) in
       record {
         count = length-append list (reply ∷ []) ∙ ap (λ (n : ℕ). n + 1) was.count;
         each = λ n within. elim (last_or n within) [
           | inl early ↦ rw (telling, take-append-le n (told list) (told (reply ∷ [])) (omega (arith, early, count))) (was.each n (omega (arith, early)))
-          | inr last ↦ rw (last, take_all (i + 1) (told (list ++ reply ∷ [])) (omega (arith, counts))) all
+          | inr last ↦ rw (last, more, take_all (i + 1) (told (list ++ reply ∷ [])) (omega (arith, counts))) all
         ];
       }
     where

@@ -13,7 +13,7 @@ ghost use Rattle.arena_oracle.specs.Answers.{CallsWithin, DrawsWithin, GenWithin
 use crate::source::ListedChunks;
 use crate::within::{run_calls_within, run_generated_within};
 use arena_calls::{LinesErr, Status, Text, parse_calls, put_summary, room_for_text};
-use arena_chunks::{Arena, Block};
+use arena_chunks::{Arena, Block, Replies};
 use arena_drawing::picture_of;
 use std::alloc::Global;
 

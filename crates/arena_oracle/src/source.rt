@@ -29,9 +29,9 @@ pub struct ListedChunks<'a> {
 }
 
 impl<'a> ListedChunks<'a> {
-    ghost use Rattle.std.specs.Prelude.{[], ◌∷◌, true, false};
+    ghost use Rattle.std.specs.Prelude.{◌+◌, [], ◌∷◌, true, false};
     ghost use Rattle.arena_rules.specs.Causes.{TellsRequests, counted};
-    ghost use Rattle.arena_oracle.specs.Limits.{limited, reported};
+    ghost use Rattle.arena_oracle.specs.Limits.{is_allowed, limited, reported};
 
     /// Returns a source within these limits that has had no request. Doesn't allocate.
     pub fn new(alloc: Global, budget: u64, refuse: &'a [u64]) -> ListedChunks<'a>
@@ -48,8 +48,15 @@ impl<'a> ListedChunks<'a> {
         }
     }
 
+    // Returns whether the limits allow the next request, for a chunk of this size.
+    fn is_allowed(&self, size: u64) -> bool
+        ensures { result ≡ is_allowed self.now.refuse.now (length self.now.requests.items + 1) self.now.left size }
+    {
+        let number = self.requests.len() as u64 + 1;
+        size <= self.left && !self.refuse.contains(&number)
+    }
+
     // Reports a request, and returns whether the limits allow it. If so, its bytes are taken from the budget.
-    #[tactic(auto, using(crate::proofs::LimitLemmas::request_laws))]
     fn admit(&mut self, size: u64, align: u64) -> bool
         ensures granted { IsTrue result → self.new.refused ≡ self.old.refused }
         ensures refused { result ≡ false → self.new.refused ≡ counted self.old.refused 1 }
@@ -59,17 +66,17 @@ impl<'a> ListedChunks<'a> {
             (reported self.new.exhausted self.new.budget self.new.refuse.now self.new.requests.items)
             ((size, align) ∷ []) }
     {
-        let number = self.requests.len() as u64 + 1;
+        let allowed = self.is_allowed(size);
         if self.requests.push((size, align)).is_err() {
             self.run_out();
             return false;
         }
-        if size <= self.left && !self.refuse.contains(&number) {
+        if allowed {
             self.left -= size;
-            return true;
+        } else {
+            self.refused = self.refused.saturating_add(1);
         }
-        self.refused = self.refused.saturating_add(1);
-        false
+        allowed
     }
 
     // Refuses a request, since memory has run out.
@@ -87,8 +94,8 @@ impl<'a> ChunkSource for ListedChunks<'a> {
     ghost use Rattle.arena_oracle.specs.Limits.{reported};
 
     ghost source = { λ c. record {
-        refusals = c.refused;
-        asked = reported c.exhausted c.budget c.refuse.now c.requests.items;
+      refusals = c.refused;
+      asked = reported c.exhausted c.budget c.refuse.now c.requests.items;
     } };
 
     fn request(&mut self, size: u64, align: u64) -> Option<Vec<u8>> {

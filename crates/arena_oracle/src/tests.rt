@@ -55,11 +55,7 @@ fn holds(rt: &impl Abort, alloc: Global, case: &Case) {
         case.lines
     );
     assert!(rt; report.length == length as u64, "{:?}", case.lines);
-    assert!(rt;
-        report.refused == case.refused,
-        "{:?}",
-        case.lines
-    );
+    assert!(rt; report.refused == case.refused, "{:?}", case.lines);
 }
 
 // The first chunk begins at 4096 and has 16320 bytes for a block of 5, which is at its end. For 5 bytes no smaller size is

@@ -40,7 +40,7 @@ pub fn run_calls_within<R: Replies>(
     let mut exhausted = false;
     for (done, call) in calls.iter().enumerate() {
         run.serve(arena, chunks, call, calls.len() - done - 1, replies)?;
-        exhausted = exhausted || chunks.exhausted;
+        exhausted |= chunks.exhausted;
     }
     let held = run.held(arena)?;
     if exhausted {
@@ -76,7 +76,7 @@ pub fn run_generated_within(
     for i in 0..count {
         let call = draws.call(i);
         run.serve(arena, chunks, &call, count - i - 1, &mut tally)?;
-        exhausted = exhausted || chunks.exhausted;
+        exhausted |= chunks.exhausted;
     }
     run.held(arena)?;
     if exhausted {

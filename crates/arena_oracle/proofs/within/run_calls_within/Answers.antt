@@ -1,4 +1,4 @@
-use Rattle.std.proofs.Common.{◌≡◌, ℕ, ◌+◌, [], ◌∷◌, ◌++◌, ap, sym, refl, ◌∙◌, arith, inl, inr, length, take, take_all, add-one, append-nil, append_assoc, subst}
+use Rattle.std.proofs.Common.{◌≡◌, ℕ, ◌+◌, [], ◌∷◌, ◌++◌, ap, sym, refl, ◌∙◌, arith, inr, length, take, take_all, add-one, append-nil, append_assoc, subst}
 use Rattle.std.proofs.Math.Seq.{take-suc}
 use Rattle.std.proofs.lemmas.Option.{slice_get_read}
 use Rattle.call_rules.specs.declared.calls.Call.{Call}
@@ -24,16 +24,15 @@ loop-done-preserved g c =
     ap (λ (n : ℕ). take n c.args.calls.now) (add-one c.loop-done.done)
     ∙ take-suc c.args.calls.now c.loop-done.done c.index-calls-done.result (omega arith)
     ∙ ap (λ (call : Call). take c.loop-done.done c.args.calls.now ++ call ∷ []) (sym c.index-calls-done.is) in
-    let running = rw more (served.1 _ (take c.loop-done.done c.args.calls.now) now.list now.running) in
     record {
       list = now.list ++ served.0 ∷ [];
-      running = running;
+      running = rw more (served.1 _ (take c.loop-done.done c.args.calls.now) now.list now.running);
       taken = λ list taken. subst (g.R.Replies.has_taken c.serve.new.replies) (append_assoc list now.list (served.0 ∷ []))
           (served.2 (list ++ now.list) (now.taken list taken));
       room = omega (arith, now.room, c.in_ok-serve.ensures.room);
       turns = λ known. let both = neither _ _ known in
-          turns_more _ _ c.serve.new.chunks _ _ (λ (n : ℕ). take n c.args.calls.now) c.loop-done.done now.list served.0 refl running both.1
-          (now.turns both.0);
+          turns_more _ _ c.serve.new.chunks _ _ (λ (n : ℕ). take n c.args.calls.now) c.loop-done.done now.list served.0 _ more refl
+          (served.1 _ (take c.loop-done.done c.args.calls.now) now.list now.running) both.1 (now.turns both.0);
     }
 
 pub returns-clause-ok : goal.returns-clause-ok

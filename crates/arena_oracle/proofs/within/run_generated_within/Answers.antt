@@ -1,4 +1,4 @@
-use Rattle.std.proofs.Common.{◌≡◌, ◌++◌, ◌∷◌, [], inl, inr, refl, ◌∙◌, arith, length}
+use Rattle.std.proofs.Common.{◌≡◌, ◌++◌, ◌∷◌, [], inr, refl, ◌∙◌, arith, length}
 use Rattle.std.proofs.lemmas.List.{length-append}
 use Rattle.call_rules.specs.Generator.{gen_calls}
 use Rattle.arena_calls.proofs.StreamLemmas.{on_err}
@@ -25,17 +25,17 @@ loop-i-preserved c =
     let now = c.loop-i.invariant in
     let served = c.in_ok-serve.ensures.serves in
     let counted = served.2 now.list now.tally in
-    let running = rw (calls_more c.args.start c.loop-i.i c.loop-i.draws.seed c.call-call.result now.seed c.call-call.ensures.call)
-    (served.1 _ (gen_calls c.args.start c.loop-i.i) now.list now.running) in
+    let more = calls_more c.args.start c.loop-i.i c.loop-i.draws.seed c.call-call.result now.seed c.call-call.ensures.call in
     record {
       list = now.list ++ served.0 ∷ [];
-      running = running;
+      running = rw more (served.1 _ (gen_calls c.args.start c.loop-i.i) now.list now.running);
       seed = seed_more c.args.start c.loop-i.i c.loop-i.draws.seed c.call-call.new.self.seed now.seed c.call-call.ensures.seed;
       tally = counted;
       calls = omega (arith, counted.calls, now.tally.calls, now.calls, length-append now.list (served.0 ∷ []));
       most = now.most;
       turns = λ known. let both = neither _ _ known in
-          turns_more _ _ c.serve.new.chunks _ _ (gen_calls c.args.start) c.loop-i.i now.list served.0 refl running both.1 (now.turns both.0);
+          turns_more _ _ c.serve.new.chunks _ _ (gen_calls c.args.start) c.loop-i.i now.list served.0 _ more refl
+          (served.1 _ (gen_calls c.args.start c.loop-i.i) now.list now.running) both.1 (now.turns both.0);
     }
 
 pub returns-clause-ok : goal.returns-clause-ok
