@@ -1,8 +1,8 @@
 -- One more request, and what the limits make of it.
-use Rattle.std.proofs.Common.{◌≡◌, ℕ, ◌+◌, ◌-◌, ◌^◌, ◌<◌, ◌≤◌, Bool, true, false, refl, sym, ◌∙◌, arith, IsTrue, Option, List, [], ◌∷◌, ◌++◌, length, append_assoc, eqb-true, eq-eqb}
+use Rattle.std.proofs.Common.{◌≡◌, ℕ, ◌+◌, ◌-◌, ◌^◌, ◌<◌, ◌≤◌, Bool, true, false, refl, sym, ◌∙◌, arith, IsTrue, List, [], ◌∷◌, ◌++◌, length, eqb-true, eq-eqb}
 use Rattle.std.specs.Prelude.{◌||◌, ◌==◌, if◌then◌else◌}
-use Rattle.arena_rules.specs.Causes.{TellsRequests, counted}
-use Rattle.arena_oracle.specs.Limits.{is_allowed, left_behind, one_refusal, left_of, refusals_of, given, reported}
+use Rattle.arena_rules.specs.Causes.{counted}
+use Rattle.arena_oracle.specs.Limits.{is_allowed, left_behind, one_refusal, left_of, refusals_of}
 
 -- the requests from the n-th on, and the k-th behind them
 left_at : (refuse : List ℕ) (n left k : ℕ) (requests : List (ℕ × ℕ)) (r : ℕ × ℕ) → k ≡ n + length requests
@@ -99,13 +99,3 @@ module _ (e : Bool) (refuse : List ℕ) (budget left refused size align : ℕ) (
       let one = refusals_refused refuse budget left refused size align requests is same other in
       let most = refusals_most refuse 1 budget requests in
       rw put (eq-eqb _ _ (omega (arith, rises, one, same, most, few))))
-
--- it is what is reported more
-pub reports_more : (budget : ℕ) (refuse : List ℕ) (requests : List (ℕ × ℕ)) (r : ℕ × ℕ)
-    → TellsRequests (reported false budget refuse requests) (reported false budget refuse (requests ++ r ∷ [])) (r ∷ [])
-reports_more budget refuse requests r = sym (append_assoc (given budget refuse) requests (r ∷ []))
-
--- where memory has run out, nothing is reported
-pub reports_none : (before : Option (List (ℕ × ℕ))) (budget : ℕ) (refuse : List ℕ) (requests added : List (ℕ × ℕ))
-    → TellsRequests before (reported true budget refuse requests) added
-reports_none before budget refuse requests added = tt
