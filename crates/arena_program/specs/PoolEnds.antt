@@ -20,6 +20,7 @@ use Rattle.arena_calls.specs.Ends.{Outside, IsUntouched, Word, EndsAs}
 use Rattle.arena_calls.specs.declared.status.Status.{Status}
 use Rattle.arena_program.specs.declared.tasks.Lender.{Lender}
 use Rattle.arena_program.specs.declared.tasks.Lender.TheVariants.{Standard, Keeping, Fixed}
+use Rattle.arena_program.specs.declared.tasks.Task.{Task}
 
 -- what shows that the piece of work of this number was starved, if something does
 abbrev pub shown : {C : Type 0} → ℕ → Option (Starved C) → List (ℕ × Starved C)
@@ -68,6 +69,10 @@ abbrev pub limit_of : Lender → Option ℕ
 limit_of Standard = None
 limit_of (Keeping most) = Some most
 limit_of (Fixed bytes arenas) = None
+
+-- how many arenas that pool has at first: as many as the words say, or else one for each worker
+abbrev pub arenas_of : Task → ℕ
+arenas_of task = elim task.lender [ Fixed bytes arenas ↦ arenas | _ ↦ task.workers ]
 
 abbrev pub text_of_served : {C : Type 0} → List (Served Outcome C) → List ℕ
 text_of_served all = text_of_outcomes (map (λ served. served.outcome) all)

@@ -15,6 +15,7 @@ use script_rules::laws;
 
 /// Where nothing fails, the bytes of an input that reports them determine the status of a run of scripts, unless memory
 /// runs out.
+#[tactic(auto, using(arena_calls::proofs::StatusLemmas::over))]
 pub fn one_script_status<C: ChunkSource, J: Job<C>>()
     ensures within { (lender : Lender) (status : Status) (old new : Outside) (before after : List (ℕ × Starved C)) (bytes : List ℕ)
         (read : Result (List (List Command)) ℕ)
@@ -30,6 +31,7 @@ pub fn one_script_status<C: ChunkSource, J: Job<C>>()
 }
 
 /// A read that failed is reported as a read fault, and a write that failed as a write fault, whatever else ran out.
+#[tactic(auto, using(arena_calls::proofs::StatusLemmas::told_reads, arena_calls::proofs::StatusLemmas::told_writes))]
 pub fn told_script_faults<C: ChunkSource, J: Job<C>>()
     ensures reads { (lender : Lender) (status : Status) (old new : Outside) (before after : List (ℕ × Starved C))
         → ScriptEnds C.source J.worked lender status old new before after
@@ -40,6 +42,7 @@ pub fn told_script_faults<C: ChunkSource, J: Job<C>>()
 {}
 
 /// Where nothing fails, an input that isn't too long is linted, unless memory runs out.
+#[tactic(auto, using(arena_calls::proofs::StatusLemmas::over))]
 pub fn one_lint_status<C: ChunkSource>()
     ensures within { (status : Status) (old new : Outside) (before after : List (ℕ × Starved C)) (bytes : List ℕ)
         → LintEnds C.source status old new before after → IsFaultless old new → old.left ≡ Some bytes → length bytes ≤ limit
@@ -50,6 +53,7 @@ pub fn one_lint_status<C: ChunkSource>()
 {}
 
 /// A failed read or write is reported as such when sources are linted, too.
+#[tactic(auto, using(arena_calls::proofs::StatusLemmas::told_reads, arena_calls::proofs::StatusLemmas::told_writes))]
 pub fn told_lint_faults<C: ChunkSource>()
     ensures reads { (status : Status) (old new : Outside) (before after : List (ℕ × Starved C))
         → LintEnds C.source status old new before after → new.read_faults ≢ old.read_faults → status ≡ Status.ReadFault }

@@ -4,7 +4,7 @@ ghost use Rattle.std.specs.List.{AllZip};
 ghost use Rattle.arena_pool.specs.Names.{IsBlankOf};
 ghost use Rattle.script_workers.specs.Serving.{IsServedAlone};
 ghost use Rattle.arena_program.specs.Words.{IsWithin, IsLender};
-ghost use Rattle.arena_program.specs.PoolEnds.{kind_of, limit_of};
+ghost use Rattle.arena_program.specs.PoolEnds.{kind_of, limit_of, arenas_of};
 
 use crate::tasks::{Lender, Task};
 use arena_pool::{AllocatorPool, ChunkMaker, MOST_LENT, PoolKind, PoolName};
@@ -30,7 +30,9 @@ fn kind_and_limit(lender: Lender) -> (PoolKind, Option<u64>)
 }
 
 // How many arenas the pool has at first.
-fn arenas(task: Task) -> u32 {
+fn arenas(task: Task) -> u32
+    ensures { result ≡ arenas_of task }
+{
     match task.lender {
         Lender::Fixed { arenas, .. } => arenas,
         _ => task.workers,
