@@ -5,16 +5,37 @@ ghost use Rattle.arena_rules.specs.State.{is_min_align};
 use super::stage::Stage;
 use super::steps::Step;
 use super::{must, refusing, same, same_at};
-use arena_chunks::{Arena, ArenaErr, ChunkSource, MemoryChunks};
+use arena_chunks::{Arena, ArenaErr, MemoryChunks};
 use std::alloc::Global;
 use std::process::Abort;
 
-// A capacity, and the size of the first chunk of an arena of least alignment 1, or the number of refused requests.
-type Capacity = (u64, Result<u64, u32>);
+// A capacity, the size of the first chunk of an arena of least alignment 1 or the number of refused requests, and all
+// requests.
+type Capacity = (u64, Result<u64, u32>, &'static [(u64, u64)]);
 
-fn answers<C: ChunkSource>(rt: &impl Abort, alloc: Global, chunks: &mut C, rows: &[Capacity]) {
-    for &(capacity, wanted) in rows {
-        match (Arena::with_capacity(alloc, chunks, capacity), wanted) {
+// The size of a first chunk isn't halved, and capacities that no chunk can have fail without a request.
+const CAPACITIES: &[Capacity] = &[
+    (10, Ok(64), &[(64, 16)]),
+    (0, Ok(0), &[]),
+    (64, Ok(64), &[(64, 16)]),
+    (65, Ok(192), &[(192, 16)]),
+    (4032, Ok(4032), &[(4032, 16)]),
+    (4033, Ok(8128), &[(8128, 16)]),
+    (1 << 63, Err(0), &[]),
+    ((1 << 63) - 63, Err(0), &[]),
+];
+
+// The first request is refused.
+const REFUSED: &[Capacity] = &[
+    (10, Err(1), &[(64, 16)]),
+    ((1 << 63) - 64, Err(1), &[((1 << 63) - 64, 16)]),
+];
+
+// Checks the rows, each over a new source that refuses the requests with these numbers.
+fn answer(rt: &impl Abort, alloc: Global, refuse: &[u64], rows: &[Capacity]) {
+    for &(capacity, wanted, requests) in rows {
+        let mut chunks = refusing(alloc, refuse).expect(rt, "memory");
+        match (Arena::with_capacity(alloc, &mut chunks, capacity), wanted) {
             (Ok(arena), Ok(size)) => {
                 same_at(rt, capacity, arena.allocated_bytes(), size);
                 must(rt, capacity, arena.is_growing());
@@ -22,39 +43,14 @@ fn answers<C: ChunkSource>(rt: &impl Abort, alloc: Global, chunks: &mut C, rows:
             (Err(e), Err(refused)) => same_at(rt, capacity, e, ArenaErr::AllocErr { refused }),
             _ => must(rt, capacity, false),
         }
+        same_at(rt, capacity, chunks.requests(), Some(requests));
     }
 }
 
-// The first and the seventh request are refused. The size of a first chunk isn't halved, and capacities that no chunk
-// can have fail without a request.
-const CAPACITIES: &[Capacity] = &[
-    (10, Err(1)),
-    (10, Ok(64)),
-    (0, Ok(0)),
-    (64, Ok(64)),
-    (65, Ok(192)),
-    (4032, Ok(4032)),
-    (4033, Ok(8128)),
-    (1 << 63, Err(0)),
-    ((1 << 63) - 63, Err(0)),
-    ((1 << 63) - 64, Err(1)),
-];
-
-const TOLD: &[(u64, u64)] = &[
-    (64, 16),
-    (64, 16),
-    (64, 16),
-    (192, 16),
-    (4032, 16),
-    (8128, 16),
-    ((1 << 63) - 64, 16),
-];
-
 #[test]
 fn arenas_of_a_capacity(rt: HostRuntime) {
-    let mut chunks = refusing(rt.alloc(), &[1, 7]).expect(&rt, "memory");
-    answers(&rt, rt.alloc(), &mut chunks, CAPACITIES);
-    same(&rt, chunks.requests(), Some(TOLD));
+    answer(&rt, rt.alloc(), &[], CAPACITIES);
+    answer(&rt, rt.alloc(), &[1], REFUSED);
 }
 
 // An arena with capacity 10 has 64 bytes, and its next chunk follows the rule for growth.

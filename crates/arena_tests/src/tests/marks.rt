@@ -1,11 +1,13 @@
 // Tests of which marks an arena accepts, and of the search for the chunk of an address.
+ghost use Rattle.std.specs.Prelude.{◌+◌, ◌≤◌, length};
 ghost use Rattle.arena_bases.specs.Bases.{IsBlankOf};
 
 use super::steps::Step;
-use super::{layout, same, same_at};
+use super::{layout, must, same, same_at};
 use arena_bases::Steps;
 use arena_chunks::{Arena, MemoryChunks};
 use std::marker::Brand;
+use std::process::Abort;
 use std::sync::ledger::{Blank, Ledger};
 
 pub(super) const MARKS: &[Step] = &[
@@ -26,16 +28,25 @@ pub(super) const MARKS: &[Step] = &[
     Step::AcceptsAt(u64::MAX, u64::MAX, u64::MAX, false),
 ];
 
-// The number of the chunk that contains an address, with the counter of steps `L`.
-fn number_of<L: Ledger>(arena: &Arena<1>, addr: u64, blank: Blank) -> Option<u64>
-    requires { IsBlankOf L.name L.parts blank }
+// The number of the chunk that contains an address, of at most three chunks: the search takes at most two steps.
+fn find_in_three<L: Ledger>(arena: &Arena<1>, addr: u64, steps: &mut Steps<L>) -> Option<u64>
+    requires { length arena.now.state.chunks ≤ 3 }
+    ensures { steps.new ≤ steps.old + 2 }
 {
-    let mut steps = Steps::<L>::new(blank);
-    arena.find_chunk(addr, &mut steps)
+    arena.find_chunk(addr, steps)
 }
 
-fn number(arena: &Arena<1>, addr: u64) -> Option<u64> {
-    number_of::<Brand>(arena, addr, Blank::new(1))
+// The same with a new counter of steps `L`. The test fails if there are more chunks.
+fn number_of<L: Ledger>(rt: &impl Abort, arena: &Arena<1>, addr: u64, blank: Blank) -> Option<u64>
+    requires { IsBlankOf L.name L.parts blank }
+{
+    must(rt, addr, arena.checkpoint().chunks <= 3);
+    let mut steps = Steps::<L>::new(blank);
+    find_in_three(arena, addr, &mut steps)
+}
+
+fn number(rt: &impl Abort, arena: &Arena<1>, addr: u64) -> Option<u64> {
+    number_of::<Brand>(rt, arena, addr, Blank::new(1))
 }
 
 // The sizes of blocks in three chunks, and their addresses.
@@ -54,17 +65,17 @@ const SEARCHES: &[(u64, Option<u64>)] = &[
     (118689, None),
 ];
 
-// In three chunks each search takes at most two steps, as its contract says.
+// Each search takes at most two steps, by the contract of `find_in_three`.
 #[test]
 fn chunks_that_are_found(rt: HostRuntime) {
     let mut arena = Arena::new(rt.alloc());
     let mut chunks = MemoryChunks::new(rt.alloc(), 1 << 20);
-    same(&rt, number(&arena, 16), None);
+    same(&rt, number(&rt, &arena, 16), None);
     for &(size, addr) in BLOCKS {
         let block = arena.alloc_layout(&mut chunks, layout(&rt, size, 1));
         same(&rt, block.expect(&rt, "a block").addr, addr);
     }
     for &(addr, wanted) in SEARCHES {
-        same_at(&rt, addr, number(&arena, addr), wanted);
+        same_at(&rt, addr, number(&rt, &arena, addr), wanted);
     }
 }

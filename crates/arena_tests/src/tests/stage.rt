@@ -112,6 +112,7 @@ impl<const M: usize> Stage<M> {
             Step::Used(wanted) => ((self.arena.used_bytes(), 0), (wanted, 0)),
             Step::Allocated(wanted) => ((self.arena.allocated_bytes(), 0), (wanted, 0)),
             Step::Capacity(wanted) => ((self.arena.chunk_capacity(), 0), (wanted, 0)),
+            Step::Cursor(wanted) => ((self.arena.cursor(), 0), (wanted, 0)),
             Step::Statistics(placed, resized) => {
                 (self.arena.get_allocation_stats(), (placed, resized))
             }

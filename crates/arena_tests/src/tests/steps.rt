@@ -33,10 +33,11 @@ pub(super) enum Step {
     HeldAt(u64, u64, u64, bool),
     // Whether a mark with this generation, number of chunks and cursor is accepted.
     AcceptsAt(u64, u64, u64, bool),
-    // The bytes in use in all chunks, the bytes of all chunks, and the unused bytes of the newest one.
+    // The bytes in use in all chunks, the bytes of all chunks, the unused bytes of the newest one, and its cursor.
     Used(u64),
     Allocated(u64),
     Capacity(u64),
+    Cursor(u64),
     // The number of blocks that were placed, and the number that were grown or shrunk.
     Statistics(u64, u64),
     // The used part of each chunk, newest first: its address, its size, and its first byte.

@@ -1,19 +1,6 @@
 // Tests of scripts and sources through the words, over streams in memory: the whole input and the whole output.
-use super::{Asked, CALLS, holds, streams, words};
-use arena_calls::{MemoryInput, MemoryOutput};
-use arena_chunks::{Arena, MemoryChunks};
-use arena_pool::MemoryMaker;
-use arena_program::arena_main;
-use arena_script::Engine;
-use call_rules::Bytes;
-use std::alloc::Global;
-use std::process::Abort;
-use std::sync::Wait;
+use super::{Asked, CALLS, ends_so};
 use std::test::Fail;
-use std::thread::Threads;
-
-// The most bytes that all chunks of a pool's arena may have.
-const BUDGET: u64 = 67_108_864;
 
 // The words, the input and the output.
 type Row = (&'static [&'static str], &'static str, &'static str);
@@ -73,53 +60,17 @@ const ROWS: &[Row] = &[
     (&["lint", "1"], "", "source 0\n"),
 ];
 
-// Runs the words and returns the exit status.
-fn serve<R: Threads + Wait + Sync>(
-    rt: &R,
-    alloc: Global,
-    words: &[Bytes],
-    input: &mut MemoryInput,
-    output: &mut MemoryOutput,
-) -> u8 {
-    arena_main(
-        rt,
-        alloc,
-        words,
-        &mut Arena::<1>::new(alloc),
-        &mut MemoryChunks::new(alloc, BUDGET),
-        input,
-        output,
-        MemoryMaker::new(alloc, BUDGET),
-        &Engine,
-        &mut Vec::new(alloc),
-    )
-    .code()
-}
-
-// Checks that the status is 0, and the output.
-fn tells<R: Threads + Wait + Sync + Abort>(
-    rt: &R,
-    alloc: Global,
-    (list, text, told): &Row,
-) -> Result<(), Fail> {
-    let asked = Asked {
-        words: list,
-        text: text.as_bytes(),
-        given: 7,
-        taken: 5,
-        ..CALLS
-    };
-    let (mut input, mut output) = streams(alloc, &asked)?;
-    let words = words(alloc, list)?;
-    let code = serve(rt, alloc, words.as_slice(), &mut input, &mut output);
-    holds(rt, code == 0 && output.bytes() == told.as_bytes(), text);
-    Ok(())
-}
-
 #[test]
 fn scripts_and_sources_by_their_words(rt: HostRuntime) -> Result<(), Fail> {
-    for row in ROWS {
-        tells(&rt, rt.alloc(), row)?;
+    for (words, text, told) in ROWS {
+        let asked = Asked {
+            words,
+            text: text.as_bytes(),
+            given: 7,
+            taken: 5,
+            ..CALLS
+        };
+        ends_so(&rt, rt.alloc(), &asked, (0, 0, told.as_bytes()), text)?;
     }
     Ok(())
 }

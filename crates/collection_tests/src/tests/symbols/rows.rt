@@ -30,7 +30,6 @@ enum Call {
 const CALLS: &[Call] = &[
     Call::Define(7, 1, true),
     Call::Enter,
-    Call::InLast(7, false),
     Call::Define(7, 2, true),
     Call::Define(7, 3, false),
     Call::Lookup(7, Some(2)),
@@ -38,6 +37,9 @@ const CALLS: &[Call] = &[
     Call::Lookup(7, Some(1)),
     Call::Leave(false),
     Call::Lookup(8, None),
+    Call::InLast(7, true),
+    Call::Enter,
+    Call::InLast(7, false),
 ];
 
 fn answered(rt: &impl Abort, at: usize, nest: &mut Nest<MemoryChunks>, call: &Call) {

@@ -1,12 +1,14 @@
 // Tests of how runs end if reads or writes fail, and of the streams in memory.
 ghost use Rattle.std.specs.Prelude.{◌<◌, length};
 
-use super::{Asked, CALLS, ends_so, holds, serve, words};
+use crate::tests::{Asked, CALLS, ends_so, holds, serve, words};
 use arena_calls::{MemoryOutput, Output, Status, StdInput, StdOutput};
 use arena_chunks::{Bytes, MemoryChunks};
 use std::alloc::Global;
 use std::process::Abort;
+use std::sync::Wait;
 use std::test::Fail;
+use std::thread::Threads;
 
 // The reads and the writes that fail, the status, and the output. Reads give 2 bytes of 4, so the third one reaches
 // the end. Writes take 4 bytes of 9.
@@ -99,11 +101,17 @@ fn only_the_listed_write_fails(rt: HostRuntime) -> Result<(), Fail> {
 }
 
 // Runs calls over a reader and a writer of std.
-fn piped(alloc: Global, words: &[Bytes], text: &[u8], written: &mut Vec<u8>) -> Status {
+fn piped<R: Threads + Wait + Sync>(
+    rt: &R,
+    alloc: Global,
+    words: &[Bytes],
+    text: &[u8],
+    written: &mut Vec<u8>,
+) -> Status {
     let mut input = StdInput::new(text);
     let mut output = StdOutput::new(written);
     let mut chunks = MemoryChunks::new(alloc, 1 << 30);
-    serve(alloc, words, &mut chunks, &mut input, &mut output)
+    serve(rt, alloc, words, &mut chunks, &mut input, &mut output)
 }
 
 #[test]
@@ -111,7 +119,8 @@ fn over_a_reader_and_a_writer_of_std(rt: HostRuntime) -> Result<(), Fail> {
     let alloc = rt.alloc();
     let words = words(alloc, &["calls"])?;
     let mut written = Vec::new(alloc);
-    let status = piped(alloc, words.as_slice(), b"used\nallocated\n", &mut written);
+    let text = b"used\nallocated\n";
+    let status = piped(&rt, alloc, words.as_slice(), text, &mut written);
     let is_so = status.code() == 0 && written.as_slice() == b"number 0\nnumber 0\n".as_slice();
     holds(&rt, is_so, "status, written");
     Ok(())

@@ -1,5 +1,8 @@
 // Tests of calls that are generated from a number, of their summaries, and of words that are no valid request.
-use super::{Asked, CALLS, ends_so, holds};
+ghost use Rattle.std.specs.Prelude.{◌≡◌};
+ghost use Rattle.call_rules.specs.Generator.{drawn};
+
+use crate::tests::{Asked, CALLS, ends_so, holds};
 use arena_calls::{Draws, parse_calls};
 use std::test::Fail;
 
@@ -27,8 +30,14 @@ const FIRST: &[(u64, usize, &str)] = &[
     ),
 ];
 
+// The first draw of start 0, which makes the call `read 183`.
+fn first_draw_of_0()
+    ensures { drawn 0 ≡ 167951807 }
+{}
+
 #[test]
 fn first_calls_of_a_start(rt: HostRuntime) -> Result<(), Fail> {
+    first_draw_of_0();
     let alloc = rt.alloc();
     for (start, count, lines) in FIRST {
         let mut draws = Draws::new(alloc, *start);

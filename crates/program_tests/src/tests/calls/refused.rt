@@ -1,5 +1,5 @@
 // Tests of inputs with a line that isn't a call.
-use super::{Asked, CALLS, ends_so};
+use crate::tests::{Asked, CALLS, ends_so};
 use std::test::Fail;
 
 // An input, and the number of its first refused line.

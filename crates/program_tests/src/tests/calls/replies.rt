@@ -1,10 +1,12 @@
 // Tests of lines of calls, and of the replies that follow from the rules.
 use super::endings::{LINES, REPLIES};
-use super::{Asked, CALLS, ends_so, holds, run_over};
+use crate::tests::{Asked, CALLS, ends_so, holds, run_over};
 use arena_chunks::RefusingChunks;
 use std::alloc::Global;
 use std::process::Abort;
+use std::sync::Wait;
 use std::test::Fail;
+use std::thread::Threads;
 
 // Lines of calls, and the expected replies.
 const ROWS: &[(&str, &str)] = &[
@@ -141,8 +143,8 @@ const REFUSING: &[(&[u64], &str, &str, &[(u64, u64)])] = &[
     ),
 ];
 
-fn refused_so(
-    rt: &impl Abort,
+fn refused_so<R: Threads + Wait + Sync + Abort>(
+    rt: &R,
     alloc: Global,
     refuse: &[u64],
     (calls, replies): (&str, &str),
@@ -153,7 +155,7 @@ fn refused_so(
         text: calls.as_bytes(),
         ..CALLS
     };
-    let ended = run_over(alloc, &mut chunks, &asked)?;
+    let ended = run_over(rt, alloc, &mut chunks, &asked)?;
     holds(rt, ended.is((0, 0, replies.as_bytes())), calls);
     holds(rt, chunks.requests() == Some(requests), calls);
     Ok(())
