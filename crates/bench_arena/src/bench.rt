@@ -1,7 +1,7 @@
 // The program's arguments, which are called words, and the runs of the loops that they ask for.
 ghost use Rattle.std.specs.Prelude.{◌<◌, IfSome};
 
-use crate::loops::{Failed, Heap, Timed, in_batches, with_capacity};
+use crate::loops::{Failed, Heap, Timed, in_batches, new_allocator};
 use std::{env, io};
 
 // The number of times that a loop is timed. The best run counts.
@@ -68,13 +68,11 @@ impl Bench<'_> {
         }
     }
 
-    /// Times a loop if it is requested, and prints the result. It makes `calls` calls by default, and its arena's first
-    /// chunk has `capacity` bytes, or no chunk is there at first if that is 0.
+    /// Times a loop if it is requested, and prints the result. It makes `calls` calls by default.
     pub fn time<F: Fn(&HostRuntime, &mut Heap, u64) -> Result<Timed, Failed> + Drop>(
         &self,
         name: &str,
         calls: u64,
-        capacity: u64,
         run: F,
     ) -> Result<(), Failed>
         requires { F.IsAlwaysCallable run }
@@ -82,9 +80,9 @@ impl Bench<'_> {
         let Some(runs) = self.runs_of(name, calls) else {
             return Ok(());
         };
-        let mut best = run_once(self.rt, capacity, &run, runs.calls)?;
+        let mut best = run_once(self.rt, &run, runs.calls)?;
         for _ in 1..runs.count {
-            let next = run_once(self.rt, capacity, &run, runs.calls)?;
+            let next = run_once(self.rt, &run, runs.calls)?;
             if next.time < best.time {
                 best = next;
             }
@@ -92,8 +90,8 @@ impl Bench<'_> {
         tell(self.rt, name, runs, best)
     }
 
-    /// Times a loop in a chunk that is reset before it is full. Its closure places a given number of values, and adds up
-    /// what it reads.
+    /// Times a loop in a chunk that is reset before it is full. Its closure places a given number of values, and adds
+    /// up what it reads.
     pub fn time_batches<F: Fn(&mut Heap, u64) -> Result<u64, Failed> + Drop>(
         &self,
         name: &str,
@@ -102,12 +100,7 @@ impl Bench<'_> {
     ) -> Result<(), Failed>
         requires { F.IsAlwaysCallable place }
     {
-        self.time(
-            name,
-            calls,
-            1 << 22,
-            |rt, a, calls| in_batches(rt, a, calls, &place),
-        )
+        self.time(name, calls, |rt, a, calls| in_batches(rt, a, calls, &place))
     }
 }
 
@@ -116,17 +109,16 @@ fn number(word: Option<String>) -> Option<u64> {
     word.as_str().parse::<u64>().ok()
 }
 
-// Runs a loop once in a new arena. It is compiled for each loop separately, so that the arena can be kept in registers.
+// Runs a loop once in a new arena without a chunk. It is compiled for each loop separately, with an arena of its own.
 #[inline(never)]
 fn run_once<F: Fn(&HostRuntime, &mut Heap, u64) -> Result<Timed, Failed>>(
     rt: &HostRuntime,
-    capacity: u64,
     run: &F,
     calls: u64,
 ) -> Result<Timed, Failed>
     requires { F.IsAlwaysCallable run.now }
 {
-    let mut a = with_capacity(rt, capacity)?;
+    let mut a = new_allocator(rt);
     run(rt, &mut a, calls)
 }
 

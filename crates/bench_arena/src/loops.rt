@@ -45,13 +45,13 @@ pub fn time<R: Threads + Wait + Sync>(bench: &Bench, threads: &R) -> Result<(), 
     trees::time(bench)
 }
 
-// Returns an arena without a chunk.
-fn new_allocator(rt: &HostRuntime) -> Heap {
+/// Returns an arena without a chunk.
+pub fn new_allocator(rt: &HostRuntime) -> Heap {
     Allocator::new(rt.alloc(), MemoryChunks::new(rt.alloc(), BUDGET))
 }
 
-/// Returns an arena whose first chunk has `capacity` bytes, or one without a chunk if that is 0.
-pub fn with_capacity(rt: &HostRuntime, capacity: u64) -> Result<Heap, Failed> {
+// Returns an arena whose first chunk has `capacity` bytes.
+fn with_capacity(rt: &HostRuntime, capacity: u64) -> Result<Heap, Failed> {
     let chunks = MemoryChunks::new(rt.alloc(), BUDGET);
     match Allocator::with_capacity(rt.alloc(), chunks, capacity) {
         Ok(a) => Ok(a),

@@ -1,7 +1,7 @@
 // Loops over blocks.
 ghost use Rattle.std.specs.Prelude.{◌≡◌, IfOk};
 
-use super::{Bench, Clock, Failed, Heap, Timed, new_allocator};
+use super::{Bench, Clock, Failed, Heap, Timed, new_allocator, with_capacity};
 use arena_chunks::Alloc;
 use arena_place::Layout;
 
@@ -12,10 +12,10 @@ const PLACED: u64 = 16384;
 const GROWN: u64 = 63;
 
 pub(super) fn time(bench: &Bench) -> Result<(), Failed> {
-    bench.time("alloc_warm", 10_000_000, 1 << 20, alloc_warm)?;
-    bench.time("grow_at_cursor", 10_000_000, 1 << 20, grow_at_cursor)?;
-    bench.time("reset_empty", 10_000_000, 0, reset_empty)?;
-    bench.time("reset_chunks", 100_000, 0, reset_chunks)
+    bench.time("alloc_warm", 10_000_000, alloc_warm)?;
+    bench.time("grow_at_cursor", 10_000_000, grow_at_cursor)?;
+    bench.time("reset_empty", 10_000_000, reset_empty)?;
+    bench.time("reset_chunks", 100_000, reset_chunks)
 }
 
 pub(super) fn layout(size: u64, align: u64) -> Result<Layout, Failed>
@@ -45,6 +45,7 @@ fn place_round(a: &mut Heap, layouts: &[Layout; 64], blocks: u64) -> Result<u64,
 
 // Blocks of mixed small layouts, in a chunk that is reset before it is full.
 fn alloc_warm(rt: &HostRuntime, a: &mut Heap, calls: u64) -> Result<Timed, Failed> {
+    *a = with_capacity(rt, 1 << 20)?;
     let layouts = small_layouts()?;
     let clock = Clock::start(rt);
     let mut number: u64 = 0;
@@ -68,6 +69,7 @@ fn grow_round(a: &mut Heap, most: u64) -> Result<u64, Failed> {
 
 // A block of 1 to 64 bytes, grown by one byte at a time.
 fn grow_at_cursor(rt: &HostRuntime, a: &mut Heap, calls: u64) -> Result<Timed, Failed> {
+    *a = with_capacity(rt, 1 << 20)?;
     let clock = Clock::start(rt);
     let mut number: u64 = 0;
     for _ in 0..calls / GROWN {

@@ -1,5 +1,5 @@
 // A loop in a chunk that is reset before it is full.
-use super::{Clock, Failed, Heap, Timed};
+use super::{Clock, Failed, Heap, Timed, with_capacity};
 
 // The number of values that are placed between two resets, in a chunk with room for all of them.
 const BATCH: u64 = 65_536;
@@ -14,6 +14,7 @@ pub fn in_batches<F: Fn(&mut Heap, u64) -> Result<u64, Failed>>(
 ) -> Result<Timed, Failed>
     requires { F.IsAlwaysCallable place.now }
 {
+    *a = with_capacity(rt, 1 << 22)?;
     let clock = Clock::start(rt);
     let mut number: u64 = 0;
     for _ in 0..values / BATCH {

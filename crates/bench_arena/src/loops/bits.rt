@@ -11,11 +11,11 @@ use arena_items::laws::frame_law;
 const JOINED: u64 = 4096;
 
 pub(super) fn time(bench: &Bench) -> Result<(), Failed> {
-    bench.time("bitset_set", 10_000_000, 0, bitset_set)?;
-    bench.time("bitset_set_ascending", 10_000_000, 0, bitset_set_ascending)?;
-    bench.time("bitset_contains", 10_000_000, 0, bitset_contains)?;
-    bench.time("bitset_ones", 10_000_000, 0, bitset_ones)?;
-    bench.time("bitset_union", 400_000_000, 0, bitset_union)
+    bench.time("bitset_set", 10_000_000, bitset_set)?;
+    bench.time("bitset_set_ascending", 10_000_000, bitset_set_ascending)?;
+    bench.time("bitset_contains", 10_000_000, bitset_contains)?;
+    bench.time("bitset_ones", 10_000_000, bitset_ones)?;
+    bench.time("bitset_union", 400_000_000, bitset_union)
 }
 
 // The numbers below a limit, in a scattered order.

@@ -5,8 +5,8 @@ use super::{Bench, Clock, Failed, Heap, Timed, count, new_allocator};
 use arena_clone::CloneIn;
 
 pub(super) fn time(bench: &Bench) -> Result<(), Failed> {
-    bench.time("vec_clone", 10_000_000, 0, vec_clone)?;
-    bench.time("map_clone", 1_000_000, 0, map_clone)
+    bench.time("vec_clone", 10_000_000, vec_clone)?;
+    bench.time("map_clone", 1_000_000, map_clone)
 }
 
 // A vector of numbers that is copied. A call is one number.

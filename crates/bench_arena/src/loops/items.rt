@@ -17,7 +17,7 @@ pub(super) fn time(bench: &Bench) -> Result<(), Failed> {
         |a, values| slices(a, &source, values),
     )?;
     bench.time_batches("str_copy", 10_000_000, texts)?;
-    bench.time("alloc_fixed", 10_000_000, 0, alloc_fixed)
+    bench.time("alloc_fixed", 10_000_000, alloc_fixed)
 }
 
 // Places boxed numbers, and adds up what is read from them.

@@ -12,11 +12,11 @@ const FEW: u32 = 8;
 
 pub(super) fn time(bench: &Bench) -> Result<(), Failed> {
     bench.time_batches("map_small", 10_000_000, small)?;
-    bench.time("map_get", 1_000_000, 0, map_get)?;
-    bench.time("map_remove", 1_000_000, 0, map_remove)?;
-    bench.time("map_insert", 1_000_000, 0, map_insert)?;
-    bench.time("map_iter", 1_000_000, 0, map_iter)?;
-    bench.time("map_walked", 1_000_000, 0, map_walked)
+    bench.time("map_get", 1_000_000, map_get)?;
+    bench.time("map_remove", 1_000_000, map_remove)?;
+    bench.time("map_insert", 1_000_000, map_insert)?;
+    bench.time("map_iter", 1_000_000, map_iter)?;
+    bench.time("map_walked", 1_000_000, map_walked)
 }
 
 // The numbers below 2^32 in a scattered order.

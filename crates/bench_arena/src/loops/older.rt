@@ -22,13 +22,11 @@ pub(super) fn time(bench: &Bench) -> Result<(), Failed> {
     bench.time(
         "read_older",
         10_000_000,
-        0,
         |rt, _, calls| read_older(rt, calls, chunks),
     )?;
     bench.time(
         "write_older",
         10_000_000,
-        0,
         |rt, _, calls| write_older(rt, calls, chunks),
     )
 }

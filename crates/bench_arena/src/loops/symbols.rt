@@ -12,11 +12,11 @@ use std::alloc::{AllocError, Global};
 const FEW: u32 = 4;
 
 pub(super) fn time(bench: &Bench) -> Result<(), Failed> {
-    bench.time("intern_new", 1_000_000, 0, intern_new)?;
-    bench.time("intern_known", 1_000_000, 0, intern_known)?;
-    bench.time("scope_define", 1_000_000, 0, scope_define)?;
-    bench.time("scope_lookup", 1_000_000, 0, scope_lookup)?;
-    bench.time("scope_enter", 10_000_000, 0, scope_enter)
+    bench.time("intern_new", 1_000_000, intern_new)?;
+    bench.time("intern_known", 1_000_000, intern_known)?;
+    bench.time("scope_define", 1_000_000, scope_define)?;
+    bench.time("scope_lookup", 1_000_000, scope_lookup)?;
+    bench.time("scope_enter", 10_000_000, scope_enter)
 }
 
 // Returns `n` distinct texts.

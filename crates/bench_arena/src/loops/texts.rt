@@ -9,8 +9,8 @@ const PIECE: &str = "hello, ";
 const FEW: u64 = 64;
 
 pub(super) fn time(bench: &Bench) -> Result<(), Failed> {
-    bench.time("string_push_str", 10_000_000, 0, string_push_str)?;
-    bench.time("string_push_byte", 10_000_000, 0, string_push_byte)?;
+    bench.time("string_push_str", 10_000_000, string_push_str)?;
+    bench.time("string_push_byte", 10_000_000, string_push_byte)?;
     bench.time_batches("string_push_start", 10_000_000, in_front)
 }
 

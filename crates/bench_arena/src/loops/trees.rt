@@ -1,7 +1,7 @@
 // A loop over trees.
 ghost use Rattle.std.specs.Prelude.{◌^◌, ◌<◌, ◌≤◌, length};
 
-use super::{Bench, Clock, Failed, Heap, Timed};
+use super::{Bench, Clock, Failed, Heap, Timed, with_capacity};
 use arena_tree::Tree;
 use std::alloc::{AllocError, Global};
 
@@ -47,7 +47,7 @@ const STATEMENTS: [&str; 32] = [
 ];
 
 pub(super) fn time(bench: &Bench) -> Result<(), Failed> {
-    bench.time("tree_parse", 20_000_000, 1 << 22, tree_parse)
+    bench.time("tree_parse", 20_000_000, tree_parse)
 }
 
 // Returns a pseudo-random number below `below`, by the generator of `bench/lint.sh`.
@@ -141,6 +141,7 @@ fn parsed_often(rt: &HostRuntime, a: &mut Heap, src: &[u8], calls: u64) -> Resul
 
 // A text that is parsed into a tree again and again, each time after a reset. A call is a byte of the text.
 fn tree_parse(rt: &HostRuntime, a: &mut Heap, calls: u64) -> Result<Timed, Failed> {
+    *a = with_capacity(rt, 1 << 22)?;
     let mut text = Vec::new(rt.alloc());
     put_source(rt.alloc(), &mut text)?;
     parsed_often(rt, a, text.as_slice(), calls)

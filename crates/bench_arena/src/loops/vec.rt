@@ -15,14 +15,14 @@ const INSERTED: u64 = 64;
 const SLICE: u64 = 256;
 
 pub(super) fn time(bench: &Bench) -> Result<(), Failed> {
-    bench.time("vec_push", 10_000_000, 0, vec_push)?;
-    bench.time("vec_push_reserved", 10_000_000, 0, vec_push_reserved)?;
-    bench.time("vec_sum", 10_000_000, 0, vec_sum)?;
+    bench.time("vec_push", 10_000_000, vec_push)?;
+    bench.time("vec_push_reserved", 10_000_000, vec_push_reserved)?;
+    bench.time("vec_sum", 10_000_000, vec_sum)?;
     bench.time_batches("vec_small", 10_000_000, small)?;
-    bench.time("vec_extend", 50_000_000, 0, vec_extend)?;
+    bench.time("vec_extend", 50_000_000, vec_extend)?;
     bench.time_batches("vec_insert_front", 10_000_000, in_front)?;
-    bench.time("vec_retain", 10_000_000, 0, vec_retain)?;
-    bench.time("vec_iter", 10_000_000, 0, vec_iter)
+    bench.time("vec_retain", 10_000_000, vec_retain)?;
+    bench.time("vec_iter", 10_000_000, vec_iter)
 }
 
 pub(super) fn sizes(vec: Vec<u32>) -> u64 {
