@@ -1,5 +1,5 @@
-// The loops that are timed. Each returns the time of its calls and a number that depends on the calls alone. Most get
-// a new arena.
+// The loops that are timed. Each gets a new arena and the number of its calls. It returns the time of the calls and a
+// number that depends on the calls alone.
 mod arena;
 mod batches;
 mod bits;
@@ -13,26 +13,16 @@ mod texts;
 mod trees;
 mod vec;
 
-pub use arena::{alloc_and_reset, alloc_warm, grow_at_cursor, reset_chunks};
+use crate::bench::Bench;
 use arena_chunks::{Allocator, ArenaErr, MemoryChunks};
 use arena_items::ItemErr;
 use arena_tree::TreeErr;
 use arena_vec::AllocError;
-pub use bits::{bitset_contains, bitset_ones, bitset_set, bitset_set_ascending, bitset_union};
-pub use clones::{map_clone, vec_clone};
-pub use items::{alloc_fixed, box_new, slice_copy, str_copy};
-pub use maps::{map_get, map_insert, map_iter, map_remove, map_small, map_walked};
-pub use older::{read_older, write_older};
-pub use pool::{claim, claim_threads, pool_get, pool_get_threads};
-use std::io;
+pub use batches::in_batches;
+use std::sync::Wait;
+use std::thread::Threads;
 use std::time::{Duration, Instant};
-pub use symbols::{intern_known, intern_new, scope_define, scope_enter, scope_lookup};
-pub use texts::{string_push_byte, string_push_start, string_push_str};
-pub use trees::tree_parse;
-pub use vec::{
-    vec_extend, vec_insert_front, vec_iter, vec_push, vec_push_reserved, vec_retain, vec_small,
-    vec_sum,
-};
+use std::{alloc, io};
 
 /// An arena whose chunks come from memory.
 pub type Heap = Allocator<MemoryChunks>;
@@ -40,14 +30,28 @@ pub type Heap = Allocator<MemoryChunks>;
 // The most bytes that a loop's chunks may have in all.
 const BUDGET: u64 = 1 << 30;
 
-/// Returns an arena without a chunk. Most loops borrow an arena, which is cheaper to prove. A loop that is slower
-/// that way owns its arena, and is compiled separately if that is faster.
+/// Times the loops that the words ask for, in this order.
+pub fn time<R: Threads + Wait + Sync>(bench: &Bench, threads: &R) -> Result<(), Failed> {
+    arena::time(bench)?;
+    older::time(bench)?;
+    items::time(bench)?;
+    vec::time(bench)?;
+    pool::time(bench, threads)?;
+    texts::time(bench)?;
+    bits::time(bench)?;
+    maps::time(bench)?;
+    clones::time(bench)?;
+    symbols::time(bench)?;
+    trees::time(bench)
+}
+
+/// Returns an arena without a chunk.
 pub fn new_allocator(rt: &HostRuntime) -> Heap {
     Allocator::new(rt.alloc(), MemoryChunks::new(rt.alloc(), BUDGET))
 }
 
-/// Returns an arena whose first chunk has `capacity` bytes, or one without a chunk if that is 0.
-pub fn with_capacity(rt: &HostRuntime, capacity: u64) -> Result<Heap, Failed> {
+// Returns an arena whose first chunk has `capacity` bytes.
+fn with_capacity(rt: &HostRuntime, capacity: u64) -> Result<Heap, Failed> {
     let chunks = MemoryChunks::new(rt.alloc(), BUDGET);
     match Allocator::with_capacity(rt.alloc(), chunks, capacity) {
         Ok(a) => Ok(a),
@@ -76,6 +80,12 @@ impl From<ItemErr> for Failed {
 
 impl From<AllocError> for Failed {
     fn from(_: AllocError) -> Failed {
+        Failed::NoPlace
+    }
+}
+
+impl From<alloc::AllocError> for Failed {
+    fn from(_: alloc::AllocError) -> Failed {
         Failed::NoPlace
     }
 }

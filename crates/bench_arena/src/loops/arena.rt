@@ -1,7 +1,7 @@
 // Loops over blocks.
 ghost use Rattle.std.specs.Prelude.{◌≡◌, IfOk};
 
-use super::{Clock, Failed, Heap, Timed, new_allocator};
+use super::{Bench, Clock, Failed, Heap, Timed, new_allocator, with_capacity};
 use arena_chunks::Alloc;
 use arena_place::Layout;
 
@@ -10,6 +10,13 @@ use arena_place::Layout;
 const PLACED: u64 = 16384;
 
 const GROWN: u64 = 63;
+
+pub(super) fn time(bench: &Bench) -> Result<(), Failed> {
+    bench.time("alloc_warm", 10_000_000, alloc_warm)?;
+    bench.time("grow_at_cursor", 10_000_000, grow_at_cursor)?;
+    bench.time("reset_empty", 10_000_000, reset_empty)?;
+    bench.time("reset_chunks", 100_000, reset_chunks)
+}
 
 pub(super) fn layout(size: u64, align: u64) -> Result<Layout, Failed>
     ensures { IfOk result (λ l. l.size ≡ size) }
@@ -36,8 +43,9 @@ fn place_round(a: &mut Heap, layouts: &[Layout; 64], blocks: u64) -> Result<u64,
     Ok(used)
 }
 
-/// Blocks of mixed small layouts, in a chunk that is reset before it is full.
-pub fn alloc_warm(rt: &HostRuntime, a: &mut Heap, calls: u64) -> Result<Timed, Failed> {
+// Blocks of mixed small layouts, in a chunk that is reset before it is full.
+fn alloc_warm(rt: &HostRuntime, a: &mut Heap, calls: u64) -> Result<Timed, Failed> {
+    *a = with_capacity(rt, 1 << 20)?;
     let layouts = small_layouts()?;
     let clock = Clock::start(rt);
     let mut number: u64 = 0;
@@ -59,8 +67,9 @@ fn grow_round(a: &mut Heap, most: u64) -> Result<u64, Failed> {
     Ok(used)
 }
 
-/// A block of 1 to 64 bytes, grown by one byte at a time.
-pub fn grow_at_cursor(rt: &HostRuntime, a: &mut Heap, calls: u64) -> Result<Timed, Failed> {
+// A block of 1 to 64 bytes, grown by one byte at a time.
+fn grow_at_cursor(rt: &HostRuntime, a: &mut Heap, calls: u64) -> Result<Timed, Failed> {
+    *a = with_capacity(rt, 1 << 20)?;
     let clock = Clock::start(rt);
     let mut number: u64 = 0;
     for _ in 0..calls / GROWN {
@@ -72,7 +81,8 @@ pub fn grow_at_cursor(rt: &HostRuntime, a: &mut Heap, calls: u64) -> Result<Time
     clock.stop(rt, number)
 }
 
-fn reset_often(rt: &HostRuntime, a: &mut Heap, calls: u64) -> Result<Timed, Failed> {
+// One block of eight bytes, and a reset, which keeps the first chunk.
+fn reset_empty(rt: &HostRuntime, a: &mut Heap, calls: u64) -> Result<Timed, Failed> {
     let eight = layout(8, 8)?;
     let clock = Clock::start(rt);
     let mut number: u64 = 0;
@@ -82,12 +92,6 @@ fn reset_often(rt: &HostRuntime, a: &mut Heap, calls: u64) -> Result<Timed, Fail
         a.reset();
     }
     clock.stop(rt, number)
-}
-
-/// One block of eight bytes, and a reset, which keeps the first chunk.
-pub fn alloc_and_reset(rt: &HostRuntime, calls: u64) -> Result<Timed, Failed> {
-    let mut a = new_allocator(rt);
-    reset_often(rt, &mut a, calls)
 }
 
 // Layouts of blocks that take a chunk each.
@@ -109,8 +113,8 @@ fn new_and_reset(rt: &HostRuntime, layouts: &[Layout; 3]) -> Result<u64, Failed>
     placed_and_reset(&mut a, layouts)
 }
 
-/// A new arena of three chunks, of which a reset frees two.
-pub fn reset_chunks(rt: &HostRuntime, calls: u64) -> Result<Timed, Failed> {
+// A new arena of three chunks, of which a reset frees two.
+fn reset_chunks(rt: &HostRuntime, _: &mut Heap, calls: u64) -> Result<Timed, Failed> {
     let layouts = large_layouts()?;
     let clock = Clock::start(rt);
     let mut number: u64 = 0;

@@ -1,21 +1,20 @@
-// Loops in a chunk that is reset before it is full.
-use super::{Clock, Failed, Heap, Timed};
+// A loop in a chunk that is reset before it is full.
+use super::{Clock, Failed, Heap, Timed, with_capacity};
 
-/// The number of values that are placed between two resets, in a chunk with room for all of them.
-pub const BATCH: u64 = 65_536;
+// The number of values that are placed between two resets, in a chunk with room for all of them.
+const BATCH: u64 = 65_536;
 
 /// Places values through a closure that places a given number of them and adds up what it reads, and resets after
 /// each batch.
-pub fn batches<F: FnMut(&mut Heap, u64) -> Result<u64, Failed>>(
+pub fn in_batches<F: Fn(&mut Heap, u64) -> Result<u64, Failed>>(
     rt: &HostRuntime,
     a: &mut Heap,
     values: u64,
-    mut place: F,
+    place: &F,
 ) -> Result<Timed, Failed>
-where
-    F: Drop,
-    requires { F.IsAlwaysCallable place }
+    requires { F.IsAlwaysCallable place.now }
 {
+    *a = with_capacity(rt, 1 << 22)?;
     let clock = Clock::start(rt);
     let mut number: u64 = 0;
     for _ in 0..values / BATCH {

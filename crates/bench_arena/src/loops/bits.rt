@@ -3,12 +3,20 @@ ghost use Rattle.std.specs.Prelude.{◌≡◌, ◌<◌, IfOk, IsTrue};
 ghost use Rattle.arena_chunks.specs.Frame.{AreBlocksApart};
 ghost use Rattle.arena_bits.specs.Sets.{IsSetIn};
 
-use super::{Clock, Failed, Heap, Timed, new_allocator};
+use super::{Bench, Clock, Failed, Heap, Timed};
 use arena_bits::BitSet;
 use arena_items::laws::frame_law;
 
 // The capacity of sets that are joined.
 const JOINED: u64 = 4096;
+
+pub(super) fn time(bench: &Bench) -> Result<(), Failed> {
+    bench.time("bitset_set", 10_000_000, bitset_set)?;
+    bench.time("bitset_set_ascending", 10_000_000, bitset_set_ascending)?;
+    bench.time("bitset_contains", 10_000_000, bitset_contains)?;
+    bench.time("bitset_ones", 10_000_000, bitset_ones)?;
+    bench.time("bitset_union", 400_000_000, bitset_union)
+}
 
 // The numbers below a limit, in a scattered order.
 #[derive(Clone, Copy)]
@@ -57,7 +65,8 @@ fn count(a: &Heap, set: &BitSet) -> u64
     set.ones(a).count() as u64
 }
 
-fn set_scattered(rt: &HostRuntime, a: &mut Heap, calls: u64) -> Result<Timed, Failed> {
+// Numbers that are added to a set in a scattered order.
+fn bitset_set(rt: &HostRuntime, a: &mut Heap, calls: u64) -> Result<Timed, Failed> {
     let mut set = BitSet::new_in(calls, a)?;
     let mut scattered = Scattered::below(calls);
     let clock = Clock::start(rt);
@@ -71,13 +80,8 @@ fn set_scattered(rt: &HostRuntime, a: &mut Heap, calls: u64) -> Result<Timed, Fa
     })
 }
 
-/// Numbers that are added to a set in a scattered order.
-pub fn bitset_set(rt: &HostRuntime, calls: u64) -> Result<Timed, Failed> {
-    let mut a = new_allocator(rt);
-    set_scattered(rt, &mut a, calls)
-}
-
-fn set_ascending(rt: &HostRuntime, a: &mut Heap, calls: u64) -> Result<Timed, Failed> {
+// Numbers that are added to a set in ascending order.
+fn bitset_set_ascending(rt: &HostRuntime, a: &mut Heap, calls: u64) -> Result<Timed, Failed> {
     let mut set = BitSet::new_in(calls, a)?;
     let clock = Clock::start(rt);
     for bit in 0..calls {
@@ -90,14 +94,8 @@ fn set_ascending(rt: &HostRuntime, a: &mut Heap, calls: u64) -> Result<Timed, Fa
     })
 }
 
-/// Numbers that are added to a set in ascending order.
-pub fn bitset_set_ascending(rt: &HostRuntime, calls: u64) -> Result<Timed, Failed> {
-    let mut a = new_allocator(rt);
-    set_ascending(rt, &mut a, calls)
-}
-
-/// Numbers that are looked up in a scattered order. A third are in the set.
-pub fn bitset_contains(rt: &HostRuntime, a: &mut Heap, calls: u64) -> Result<Timed, Failed> {
+// Numbers that are looked up in a scattered order. A third are in the set.
+fn bitset_contains(rt: &HostRuntime, a: &mut Heap, calls: u64) -> Result<Timed, Failed> {
     let set = thirds(a, calls)?;
     let mut scattered = Scattered::below(calls);
     let clock = Clock::start(rt);
@@ -108,8 +106,8 @@ pub fn bitset_contains(rt: &HostRuntime, a: &mut Heap, calls: u64) -> Result<Tim
     clock.stop(rt, number)
 }
 
-/// The numbers of a set, which are added up. A third are in the set.
-pub fn bitset_ones(rt: &HostRuntime, a: &mut Heap, calls: u64) -> Result<Timed, Failed> {
+// The numbers of a set, which are added up. A third are in the set.
+fn bitset_ones(rt: &HostRuntime, a: &mut Heap, calls: u64) -> Result<Timed, Failed> {
     let set = thirds(a, calls)?;
     let clock = Clock::start(rt);
     let mut number: u64 = 0;
@@ -133,8 +131,8 @@ fn joined(a: &mut Heap, set: BitSet, other: BitSet, times: u64)
     }
 }
 
-/// Sets of 4,096 bits that are joined. A call is one bit.
-pub fn bitset_union(rt: &HostRuntime, a: &mut Heap, calls: u64) -> Result<Timed, Failed> {
+// Sets of 4,096 bits that are joined. A call is one bit.
+fn bitset_union(rt: &HostRuntime, a: &mut Heap, calls: u64) -> Result<Timed, Failed> {
     frame_law::<BitSet>();
     let other = thirds(a, JOINED)?;
     let set = BitSet::new_in(JOINED, a)?;

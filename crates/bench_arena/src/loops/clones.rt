@@ -1,32 +1,29 @@
 // Loops over copies to another arena.
 use super::maps::filled;
 use super::vec::{numbers, sizes};
-use super::{Clock, Failed, Heap, Timed, count};
+use super::{Bench, Clock, Failed, Heap, Timed, count, new_allocator};
 use arena_clone::CloneIn;
 
-/// A vector of numbers that is copied. A call is one number.
-pub fn vec_clone(
-    rt: &HostRuntime,
-    from: &mut Heap,
-    to: &mut Heap,
-    calls: u64,
-) -> Result<Timed, Failed> {
-    let vec = numbers(from, calls)?;
+pub(super) fn time(bench: &Bench) -> Result<(), Failed> {
+    bench.time("vec_clone", 10_000_000, vec_clone)?;
+    bench.time("map_clone", 1_000_000, map_clone)
+}
+
+// A vector of numbers that is copied. A call is one number.
+fn vec_clone(rt: &HostRuntime, a: &mut Heap, calls: u64) -> Result<Timed, Failed> {
+    let vec = numbers(a, calls)?;
+    let mut other = new_allocator(rt);
     let clock = Clock::start(rt);
-    let copy = vec.clone_in(from, to)?;
+    let copy = vec.clone_in(a, &mut other)?;
     clock.stop(rt, sizes(copy))
 }
 
-/// A map of numbers that is copied. A call is one pair.
-pub fn map_clone(
-    rt: &HostRuntime,
-    from: &mut Heap,
-    to: &mut Heap,
-    calls: u64,
-) -> Result<Timed, Failed> {
+// A map of numbers that is copied. A call is one pair.
+fn map_clone(rt: &HostRuntime, a: &mut Heap, calls: u64) -> Result<Timed, Failed> {
     let n = count(calls)?;
-    let map = filled(from, n)?;
+    let map = filled(a, n)?;
+    let mut other = new_allocator(rt);
     let clock = Clock::start(rt);
-    let copy = map.clone_in(from, to)?;
+    let copy = map.clone_in(a, &mut other)?;
     clock.stop(rt, copy.len() as u64)
 }

@@ -3,13 +3,21 @@ ghost use Rattle.std.specs.Prelude.{IfOk};
 ghost use Rattle.arena_hash.specs.Contents.{kind};
 ghost use Rattle.arena_hash.specs.Maps.{IsMapIn};
 
-use super::batches::batches;
-use super::{Clock, Failed, Heap, Timed, count, new_allocator};
+use super::{Bench, Clock, Failed, Heap, Timed, count, new_allocator};
 use arena_hash::{ArenaKey, FxHasher, HashMap, KeyHasher};
 use arena_items::Item;
 
 // The number of pairs of a small map.
 const FEW: u32 = 8;
+
+pub(super) fn time(bench: &Bench) -> Result<(), Failed> {
+    bench.time_batches("map_small", 10_000_000, small)?;
+    bench.time("map_get", 1_000_000, map_get)?;
+    bench.time("map_remove", 1_000_000, map_remove)?;
+    bench.time("map_insert", 1_000_000, map_insert)?;
+    bench.time("map_iter", 1_000_000, map_iter)?;
+    bench.time("map_walked", 1_000_000, map_walked)
+}
 
 // The numbers below 2^32 in a scattered order.
 #[inline]
@@ -29,15 +37,16 @@ pub(super) fn filled(a: &mut Heap, n: u32) -> Result<HashMap<u32, u32>, Failed>
     Ok(map)
 }
 
-/// Keys that are inserted into a map that grows.
-pub fn map_insert(rt: &HostRuntime, a: &mut Heap, calls: u64) -> Result<Timed, Failed> {
+// Keys that are inserted into a map that grows.
+fn map_insert(rt: &HostRuntime, a: &mut Heap, calls: u64) -> Result<Timed, Failed> {
     let n = count(calls)?;
     let clock = Clock::start(rt);
     let map = filled(a, n)?;
     clock.stop(rt, map.len() as u64)
 }
 
-fn got(rt: &HostRuntime, a: &mut Heap, calls: u64) -> Result<Timed, Failed> {
+// Keys that are looked up, of which half are in the map.
+fn map_get(rt: &HostRuntime, a: &mut Heap, calls: u64) -> Result<Timed, Failed> {
     let n = count(calls)?;
     let map = filled(a, n)?;
     let clock = Clock::start(rt);
@@ -50,13 +59,8 @@ fn got(rt: &HostRuntime, a: &mut Heap, calls: u64) -> Result<Timed, Failed> {
     clock.stop(rt, number)
 }
 
-/// Keys that are looked up, of which half are in the map.
-pub fn map_get(rt: &HostRuntime, calls: u64) -> Result<Timed, Failed> {
-    let mut a = new_allocator(rt);
-    got(rt, &mut a, calls)
-}
-
-fn removed(rt: &HostRuntime, a: &mut Heap, calls: u64) -> Result<Timed, Failed> {
+// Keys that are removed.
+fn map_remove(rt: &HostRuntime, a: &mut Heap, calls: u64) -> Result<Timed, Failed> {
     let n = count(calls)?;
     let mut map = filled(a, n)?;
     let clock = Clock::start(rt);
@@ -67,12 +71,6 @@ fn removed(rt: &HostRuntime, a: &mut Heap, calls: u64) -> Result<Timed, Failed> 
         }
     }
     clock.stop(rt, number)
-}
-
-/// Keys that are removed.
-pub fn map_remove(rt: &HostRuntime, calls: u64) -> Result<Timed, Failed> {
-    let mut a = new_allocator(rt);
-    removed(rt, &mut a, calls)
 }
 
 // Inserts keys into new maps of eight, and adds up the maps' lengths.
@@ -88,13 +86,8 @@ fn small(a: &mut Heap, keys: u64) -> Result<u64, Failed> {
     Ok(number)
 }
 
-/// Keys that are inserted into new maps of eight.
-pub fn map_small(rt: &HostRuntime, a: &mut Heap, calls: u64) -> Result<Timed, Failed> {
-    batches(rt, a, calls, small)
-}
-
-/// The pairs of a map, which are added up.
-pub fn map_iter(rt: &HostRuntime, a: &mut Heap, calls: u64) -> Result<Timed, Failed> {
+// The pairs of a map, which are added up.
+fn map_iter(rt: &HostRuntime, a: &mut Heap, calls: u64) -> Result<Timed, Failed> {
     let n = count(calls)?;
     let map = filled(a, n)?;
     let clock = Clock::start(rt);
@@ -105,19 +98,15 @@ pub fn map_iter(rt: &HostRuntime, a: &mut Heap, calls: u64) -> Result<Timed, Fai
     clock.stop(rt, number)
 }
 
-/// The pairs of a map, which are inserted into another one in the order of an iterator.
-pub fn map_walked(
-    rt: &HostRuntime,
-    a: &mut Heap,
-    b: &mut Heap,
-    calls: u64,
-) -> Result<Timed, Failed> {
+// The pairs of a map, which are inserted into another one in the order of an iterator.
+fn map_walked(rt: &HostRuntime, a: &mut Heap, calls: u64) -> Result<Timed, Failed> {
     let n = count(calls)?;
     let map = filled(a, n)?;
+    let mut b = new_allocator(rt);
     let mut other: HashMap<u32, u32> = HashMap::new_in();
     let clock = Clock::start(rt);
     for (key, value) in map.iter(a) {
-        other.insert(b, key, value)?;
+        other.insert(&mut b, key, value)?;
     }
     clock.stop(rt, other.len() as u64)
 }

@@ -4,8 +4,9 @@ ghost use Rattle.std.specs.List.{All};
 ghost use Rattle.arena_chunks.specs.Memory.{is_readable};
 
 use super::arena::layout;
-use super::{Clock, Failed, Timed};
+use super::{Bench, Clock, Failed, Timed};
 use arena_chunks::{Arena, Block, MemoryChunks};
+use std::alloc::{AllocError, Global};
 
 // The number of blocks, and the number of calls after which their unpredictable order repeats.
 const BLOCKS: u64 = 1024;
@@ -15,6 +16,20 @@ const ORDER: u64 = 65536;
 // The bytes that the source has for each chunk: enough for the smallest one, so no chunk is twice as large as the one
 // before.
 const SMALLEST: u64 = 1 << 14;
+
+pub(super) fn time(bench: &Bench) -> Result<(), Failed> {
+    let chunks = bench.chunks;
+    bench.time(
+        "read_older",
+        10_000_000,
+        |rt, _, calls| read_older(rt, calls, chunks),
+    )?;
+    bench.time(
+        "write_older",
+        10_000_000,
+        |rt, _, calls| write_older(rt, calls, chunks),
+    )
+}
 
 // Places blocks of eight bytes, distributed evenly over the older chunks, or all in the newest chunk if there are no
 // older ones.
@@ -42,18 +57,17 @@ fn place_scattered(
     Ok(blocks)
 }
 
-// Appends numbers below 65536 in an unpredictable order. A number means the block whose index is its remainder.
-fn put_order(order: &mut Vec<u16>) -> Result<(), Failed> {
+// Returns numbers below 65536 in an unpredictable order. A number means the block whose index is its remainder.
+fn unpredictable(alloc: Global) -> Result<Vec<u16>, AllocError> {
+    let mut order = Vec::with_capacity(alloc, ORDER as usize)?;
     let mut x: u64 = 1;
     for _ in 0..ORDER {
         x = x
             .wrapping_mul(6364136223846793005)
             .wrapping_add(1442695040888963407);
-        if order.push((x >> 48) as u16).is_err() {
-            return Err(Failed::NoPlace);
-        }
+        order.push((x >> 48) as u16)?;
     }
-    Ok(())
+    Ok(order)
 }
 
 // Whether all blocks are readable and have at least eight bytes.
@@ -146,18 +160,16 @@ fn timed_writes(
     })
 }
 
-/// Blocks in the older of `chunks` chunks, which are read in an unpredictable order.
-pub fn read_older(rt: &HostRuntime, calls: u64, chunks: u64) -> Result<Timed, Failed> {
-    let mut order = Vec::new(rt.alloc());
-    put_order(&mut order)?;
+// Blocks in the older of `chunks` chunks, which are read in an unpredictable order.
+fn read_older(rt: &HostRuntime, calls: u64, chunks: u64) -> Result<Timed, Failed> {
+    let order = unpredictable(rt.alloc())?;
     let mut arena = Arena::<1>::new(rt.alloc());
     timed_reads(rt, &mut arena, order.as_slice(), calls, chunks)
 }
 
-/// Blocks in the older of `chunks` chunks, to which eight bytes are written in an unpredictable order.
-pub fn write_older(rt: &HostRuntime, calls: u64, chunks: u64) -> Result<Timed, Failed> {
-    let mut order = Vec::new(rt.alloc());
-    put_order(&mut order)?;
+// Blocks in the older of `chunks` chunks, to which eight bytes are written in an unpredictable order.
+fn write_older(rt: &HostRuntime, calls: u64, chunks: u64) -> Result<Timed, Failed> {
+    let order = unpredictable(rt.alloc())?;
     let mut arena = Arena::<1>::new(rt.alloc());
     timed_writes(rt, &mut arena, order.as_slice(), calls, chunks)
 }

@@ -4,25 +4,29 @@ ghost use Rattle.arena_symbols.specs.Names.{IsInternerIn};
 ghost use Rattle.arena_symbols.specs.Tables.{entry_item, IsTableIn};
 
 use super::maps::key;
-use super::{Clock, Failed, Heap, Timed, count, new_allocator};
+use super::{Bench, Clock, Failed, Heap, Timed, count};
 use arena_symbols::{Scopes, Symbols};
-use std::alloc::{self, Global};
+use std::alloc::{AllocError, Global};
 
 // The number of ids with which a scope shadows those of the outer scope.
 const FEW: u32 = 4;
 
+pub(super) fn time(bench: &Bench) -> Result<(), Failed> {
+    bench.time("intern_new", 1_000_000, intern_new)?;
+    bench.time("intern_known", 1_000_000, intern_known)?;
+    bench.time("scope_define", 1_000_000, scope_define)?;
+    bench.time("scope_lookup", 1_000_000, scope_lookup)?;
+    bench.time("scope_enter", 10_000_000, scope_enter)
+}
+
 // Returns `n` distinct texts.
-fn texts(alloc: Global, n: u32) -> Result<Vec<String>, alloc::AllocError> {
+fn texts(alloc: Global, n: u32) -> Result<Vec<String>, AllocError> {
     let mut texts = Vec::with_capacity(alloc, n as usize)?;
     for i in 0..n {
         let number = key(i);
         texts.push(format!(in alloc; "name {number}")?)?;
     }
     Ok(texts)
-}
-
-fn some_texts(alloc: Global, calls: u64) -> Result<Vec<String>, Failed> {
-    texts(alloc, count(calls)?).map_err(|_| Failed::NoPlace)
 }
 
 // Interns each text, in an interner that may have it already, and adds up the numbers.
@@ -40,18 +44,18 @@ fn interned(a: &mut Heap, symbols: &mut Symbols, texts: &[String]) -> Result<u64
     Ok(number)
 }
 
-/// Texts that are interned for the first time.
-pub fn intern_new(rt: &HostRuntime, a: &mut Heap, calls: u64) -> Result<Timed, Failed> {
-    let texts = some_texts(rt.alloc(), calls)?;
+// Texts that are interned for the first time.
+fn intern_new(rt: &HostRuntime, a: &mut Heap, calls: u64) -> Result<Timed, Failed> {
+    let texts = texts(rt.alloc(), count(calls)?)?;
     let mut symbols = Symbols::new_in();
     let clock = Clock::start(rt);
     let number = interned(a, &mut symbols, &texts)?;
     clock.stop(rt, number)
 }
 
-/// Texts that are interned already.
-pub fn intern_known(rt: &HostRuntime, a: &mut Heap, calls: u64) -> Result<Timed, Failed> {
-    let texts = some_texts(rt.alloc(), calls)?;
+// Texts that are interned already.
+fn intern_known(rt: &HostRuntime, a: &mut Heap, calls: u64) -> Result<Timed, Failed> {
+    let texts = texts(rt.alloc(), count(calls)?)?;
     let mut symbols = Symbols::new_in();
     interned(a, &mut symbols, &texts)?;
     let clock = Clock::start(rt);
@@ -70,15 +74,16 @@ fn defined(a: &mut Heap, n: u32) -> Result<Scopes, Failed>
     Ok(scopes)
 }
 
-/// Ids that are defined in one scope.
-pub fn scope_define(rt: &HostRuntime, a: &mut Heap, calls: u64) -> Result<Timed, Failed> {
+// Ids that are defined in one scope.
+fn scope_define(rt: &HostRuntime, a: &mut Heap, calls: u64) -> Result<Timed, Failed> {
     let n = count(calls)?;
     let clock = Clock::start(rt);
     let scopes = defined(a, n)?;
     clock.stop(rt, scopes.pairs.len() as u64)
 }
 
-fn looked_up(rt: &HostRuntime, a: &mut Heap, calls: u64) -> Result<Timed, Failed> {
+// Ids that are looked up, of which half are defined.
+fn scope_lookup(rt: &HostRuntime, a: &mut Heap, calls: u64) -> Result<Timed, Failed> {
     let n = count(calls)?;
     let scopes = defined(a, n)?;
     let clock = Clock::start(rt);
@@ -89,12 +94,6 @@ fn looked_up(rt: &HostRuntime, a: &mut Heap, calls: u64) -> Result<Timed, Failed
         }
     }
     clock.stop(rt, number)
-}
-
-/// Ids that are looked up, of which half are defined.
-pub fn scope_lookup(rt: &HostRuntime, calls: u64) -> Result<Timed, Failed> {
-    let mut a = new_allocator(rt);
-    looked_up(rt, &mut a, calls)
 }
 
 // Enters and leaves scopes, in each of which some ids shadow those of the outer scope. Returns the number of their
@@ -114,17 +113,11 @@ fn nested(a: &mut Heap, scopes: &mut Scopes, n: u32) -> Result<u64, Failed>
     Ok(number)
 }
 
-fn entered(rt: &HostRuntime, a: &mut Heap, calls: u64) -> Result<Timed, Failed> {
+// Scopes that are entered and left, in each of which four ids shadow those of the outer scope. A call is one scope.
+fn scope_enter(rt: &HostRuntime, a: &mut Heap, calls: u64) -> Result<Timed, Failed> {
     let n = count(calls)?;
     let mut scopes = defined(a, FEW)?;
     let clock = Clock::start(rt);
     let number = nested(a, &mut scopes, n)?;
     clock.stop(rt, number)
-}
-
-/// Scopes that are entered and left, in each of which four ids shadow those of the outer scope. A call is one scope.
-#[inline(never)]
-pub fn scope_enter(rt: &HostRuntime, calls: u64) -> Result<Timed, Failed> {
-    let mut a = new_allocator(rt);
-    entered(rt, &mut a, calls)
 }

@@ -1,6 +1,5 @@
 // Loops over texts.
-use super::batches::batches;
-use super::{Clock, Failed, Heap, Timed, new_allocator};
+use super::{Bench, Clock, Failed, Heap, Timed};
 use arena_text::StringBuilder;
 
 // The text that is appended as a whole.
@@ -9,11 +8,18 @@ const PIECE: &str = "hello, ";
 // The number of bytes that are inserted at the front of a text.
 const FEW: u64 = 64;
 
+pub(super) fn time(bench: &Bench) -> Result<(), Failed> {
+    bench.time("string_push_str", 10_000_000, string_push_str)?;
+    bench.time("string_push_byte", 10_000_000, string_push_byte)?;
+    bench.time_batches("string_push_start", 10_000_000, in_front)
+}
+
 fn sizes(text: StringBuilder) -> u64 {
     text.len().wrapping_add(text.capacity())
 }
 
-fn pieces(rt: &HostRuntime, a: &mut Heap, calls: u64) -> Result<Timed, Failed> {
+// Texts of seven bytes that are appended.
+fn string_push_str(rt: &HostRuntime, a: &mut Heap, calls: u64) -> Result<Timed, Failed> {
     let clock = Clock::start(rt);
     let mut text = StringBuilder::new_in();
     for _ in 0..calls {
@@ -22,26 +28,14 @@ fn pieces(rt: &HostRuntime, a: &mut Heap, calls: u64) -> Result<Timed, Failed> {
     clock.stop(rt, sizes(text))
 }
 
-/// Texts of seven bytes that are appended.
-pub fn string_push_str(rt: &HostRuntime, calls: u64) -> Result<Timed, Failed> {
-    let mut a = new_allocator(rt);
-    pieces(rt, &mut a, calls)
-}
-
-fn letters(rt: &HostRuntime, a: &mut Heap, calls: u64) -> Result<Timed, Failed> {
+// Bytes that are appended.
+fn string_push_byte(rt: &HostRuntime, a: &mut Heap, calls: u64) -> Result<Timed, Failed> {
     let clock = Clock::start(rt);
     let mut text = StringBuilder::new_in();
     for i in 0..calls {
         text.push_ascii_byte(a, (i % 128) as u8)?;
     }
     clock.stop(rt, sizes(text))
-}
-
-/// Bytes that are appended.
-#[inline(never)]
-pub fn string_push_byte(rt: &HostRuntime, calls: u64) -> Result<Timed, Failed> {
-    let mut a = new_allocator(rt);
-    letters(rt, &mut a, calls)
 }
 
 // Inserts bytes at the front of texts, 64 in each, and adds up the lengths.
@@ -55,9 +49,4 @@ fn in_front(a: &mut Heap, bytes: u64) -> Result<u64, Failed> {
         number = number.wrapping_add(text.len());
     }
     Ok(number)
-}
-
-/// Bytes that are inserted before up to 63 others.
-pub fn string_push_start(rt: &HostRuntime, a: &mut Heap, calls: u64) -> Result<Timed, Failed> {
-    batches(rt, a, calls, in_front)
 }

@@ -1,9 +1,9 @@
 // A loop over trees.
 ghost use Rattle.std.specs.Prelude.{◌^◌, ◌<◌, ◌≤◌, length};
 
-use super::{Clock, Failed, Heap, Timed};
+use super::{Bench, Clock, Failed, Heap, Timed, with_capacity};
 use arena_tree::Tree;
-use std::alloc::{self, Global};
+use std::alloc::{AllocError, Global};
 
 // The number of lines of the text, and the deepest nesting of its blocks.
 const COUNT: u32 = 700;
@@ -46,6 +46,10 @@ const STATEMENTS: [&str; 32] = [
     "v - (((v + v) * v * # - #) * v * # * #);",
 ];
 
+pub(super) fn time(bench: &Bench) -> Result<(), Failed> {
+    bench.time("tree_parse", 20_000_000, tree_parse)
+}
+
 // Returns a pseudo-random number below `below`, by the generator of `bench/lint.sh`.
 fn draw(seed: &mut u64, below: u64) -> u64
     requires { 0 < below }
@@ -56,7 +60,7 @@ fn draw(seed: &mut u64, below: u64) -> u64
 }
 
 // Appends the digits of a number.
-fn put_number(alloc: Global, text: &mut Vec<u8>, number: u64) -> Result<(), alloc::AllocError> {
+fn put_number(alloc: Global, text: &mut Vec<u8>, number: u64) -> Result<(), AllocError> {
     text.extend_from_slice(format!(in alloc; "{number}")?.as_bytes())?;
     Ok(())
 }
@@ -67,7 +71,7 @@ fn put_statement(
     text: &mut Vec<u8>,
     seed: &mut u64,
     statement: &str,
-) -> Result<(), alloc::AllocError> {
+) -> Result<(), AllocError> {
     for b in statement.as_bytes() {
         match *b {
             b'v' => {
@@ -83,7 +87,7 @@ fn put_statement(
 }
 
 // Appends the text: statements, and blocks of them.
-fn put_source(alloc: Global, text: &mut Vec<u8>) -> Result<(), alloc::AllocError> {
+fn put_source(alloc: Global, text: &mut Vec<u8>) -> Result<(), AllocError> {
     let mut seed: u64 = 1;
     let mut depth: u64 = 0;
     for _ in 0..COUNT {
@@ -135,11 +139,10 @@ fn parsed_often(rt: &HostRuntime, a: &mut Heap, src: &[u8], calls: u64) -> Resul
     clock.stop(rt, number)
 }
 
-/// A text that is parsed into a tree again and again, each time after a reset. A call is a byte of the text.
-pub fn tree_parse(rt: &HostRuntime, a: &mut Heap, calls: u64) -> Result<Timed, Failed> {
+// A text that is parsed into a tree again and again, each time after a reset. A call is a byte of the text.
+fn tree_parse(rt: &HostRuntime, a: &mut Heap, calls: u64) -> Result<Timed, Failed> {
+    *a = with_capacity(rt, 1 << 22)?;
     let mut text = Vec::new(rt.alloc());
-    match put_source(rt.alloc(), &mut text) {
-        Ok(()) => parsed_often(rt, a, text.as_slice(), calls),
-        Err(_) => Err(Failed::NoPlace),
-    }
+    put_source(rt.alloc(), &mut text)?;
+    parsed_often(rt, a, text.as_slice(), calls)
 }

@@ -2,8 +2,7 @@
 ghost use Rattle.std.specs.Prelude.{IfOk};
 ghost use Rattle.arena_vec.specs.Vecs.{IsVecIn};
 
-use super::batches::batches;
-use super::{Clock, Failed, Heap, Timed, count};
+use super::{Bench, Clock, Failed, Heap, Timed, count};
 use arena_items::Item;
 use arena_vec::Vec;
 
@@ -14,6 +13,17 @@ const FEW: u64 = 4;
 const INSERTED: u64 = 64;
 
 const SLICE: u64 = 256;
+
+pub(super) fn time(bench: &Bench) -> Result<(), Failed> {
+    bench.time("vec_push", 10_000_000, vec_push)?;
+    bench.time("vec_push_reserved", 10_000_000, vec_push_reserved)?;
+    bench.time("vec_sum", 10_000_000, vec_sum)?;
+    bench.time_batches("vec_small", 10_000_000, small)?;
+    bench.time("vec_extend", 50_000_000, vec_extend)?;
+    bench.time_batches("vec_insert_front", 10_000_000, in_front)?;
+    bench.time("vec_retain", 10_000_000, vec_retain)?;
+    bench.time("vec_iter", 10_000_000, vec_iter)
+}
 
 pub(super) fn sizes(vec: Vec<u32>) -> u64 {
     vec.len() as u64 + vec.capacity() as u64
@@ -50,16 +60,16 @@ fn number_at(a: &Heap, vec: Vec<u32>, i: u32) -> u64
     }
 }
 
-/// Numbers that are appended.
-pub fn vec_push(rt: &HostRuntime, a: &mut Heap, calls: u64) -> Result<Timed, Failed> {
+// Numbers that are appended.
+fn vec_push(rt: &HostRuntime, a: &mut Heap, calls: u64) -> Result<Timed, Failed> {
     let n = count(calls)?;
     let clock = Clock::start(rt);
     let vec = pushed(a, Vec::new_in(), n)?;
     clock.stop(rt, sizes(vec))
 }
 
-/// Numbers that are appended to a vector with room for them.
-pub fn vec_push_reserved(rt: &HostRuntime, a: &mut Heap, calls: u64) -> Result<Timed, Failed> {
+// Numbers that are appended to a vector with room for them.
+fn vec_push_reserved(rt: &HostRuntime, a: &mut Heap, calls: u64) -> Result<Timed, Failed> {
     let n = count(calls)?;
     let clock = Clock::start(rt);
     let vec = Vec::with_capacity_in(calls, a)?;
@@ -67,8 +77,8 @@ pub fn vec_push_reserved(rt: &HostRuntime, a: &mut Heap, calls: u64) -> Result<T
     clock.stop(rt, sizes(vec))
 }
 
-/// Numbers that are read by their index.
-pub fn vec_sum(rt: &HostRuntime, a: &mut Heap, calls: u64) -> Result<Timed, Failed> {
+// Numbers that are read by their index.
+fn vec_sum(rt: &HostRuntime, a: &mut Heap, calls: u64) -> Result<Timed, Failed> {
     let vec = numbers(a, calls)?;
     let clock = Clock::start(rt);
     let mut number: u64 = 0;
@@ -91,11 +101,6 @@ fn small(a: &mut Heap, values: u64) -> Result<u64, Failed> {
     Ok(number)
 }
 
-/// Numbers that are appended to new vectors of four.
-pub fn vec_small(rt: &HostRuntime, a: &mut Heap, calls: u64) -> Result<Timed, Failed> {
-    batches(rt, a, calls, small)
-}
-
 // Appends numbers to a vector, several at once, `times` times.
 fn extended(a: &mut Heap, source: &[u32; SLICE as usize], times: u64) -> Result<Vec<u32>, Failed> {
     let mut vec = Vec::new_in();
@@ -105,8 +110,8 @@ fn extended(a: &mut Heap, source: &[u32; SLICE as usize], times: u64) -> Result<
     Ok(vec)
 }
 
-/// Numbers that are appended 256 at a time. A call is one number.
-pub fn vec_extend(rt: &HostRuntime, a: &mut Heap, calls: u64) -> Result<Timed, Failed> {
+// Numbers that are appended 256 at a time. A call is one number.
+fn vec_extend(rt: &HostRuntime, a: &mut Heap, calls: u64) -> Result<Timed, Failed> {
     let mut source = [0; SLICE as usize];
     for i in 0..SLICE {
         source[i as usize] = i as u32;
@@ -129,21 +134,16 @@ fn in_front(a: &mut Heap, values: u64) -> Result<u64, Failed> {
     Ok(number)
 }
 
-/// Numbers that are inserted before up to 63 others.
-pub fn vec_insert_front(rt: &HostRuntime, a: &mut Heap, calls: u64) -> Result<Timed, Failed> {
-    batches(rt, a, calls, in_front)
-}
-
-/// Numbers that a predicate keeps or removes. It keeps two in three.
-pub fn vec_retain(rt: &HostRuntime, a: &mut Heap, calls: u64) -> Result<Timed, Failed> {
+// Numbers that a predicate keeps or removes. It keeps two in three.
+fn vec_retain(rt: &HostRuntime, a: &mut Heap, calls: u64) -> Result<Timed, Failed> {
     let mut vec = numbers(a, calls)?;
     let clock = Clock::start(rt);
     vec.retain(a, |x| *x % 3 != 0);
     clock.stop(rt, vec.len() as u64)
 }
 
-/// Numbers that are iterated in order.
-pub fn vec_iter(rt: &HostRuntime, a: &mut Heap, calls: u64) -> Result<Timed, Failed> {
+// Numbers that are iterated in order.
+fn vec_iter(rt: &HostRuntime, a: &mut Heap, calls: u64) -> Result<Timed, Failed> {
     let vec = numbers(a, calls)?;
     let clock = Clock::start(rt);
     let mut number: u64 = 0;
