@@ -1,6 +1,4 @@
 -- Lemmas on runs of calls.
-pub mod Trees
-pub mod FirstNames
 pub mod Log
 pub mod Known
 pub mod Change

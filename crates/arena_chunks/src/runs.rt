@@ -1,7 +1,6 @@
 // Runs of calls by name.
 mod marks;
 mod names;
-mod others;
 mod replies;
 mod run;
 mod serve;
