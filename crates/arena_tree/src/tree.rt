@@ -60,9 +60,10 @@ impl Tree {
     /// # Errors
     ///
     /// `Syntax`, `TooDeep` or `NumberTooBig` at the first token that is refused, or `Syntax` at the end of a text that
-    /// ends too early: then the arena is unchanged. `AllocErr` where the arena has no place for a block: it grows and
-    /// was starved, or it doesn't and has fewer bytes than were in use plus those. `OutOfMemory` where memory outside
-    /// the chunks runs out. Blocks placed until then stay in the arena, unused.
+    /// ends too early: then the arena is unchanged. `AllocErr` where the arena has no place for the bytes of a name, or
+    /// for a list of nodes, which doubles as it grows: it grows and was starved, or it doesn't and has fewer bytes than
+    /// were in use plus those. `OutOfMemory` where memory outside the chunks runs out. Blocks placed until then stay in
+    /// the arena, unused.
     pub fn parse<C: ChunkSource>(a: &mut Allocator<C>, src: &[u8]) -> Result<Tree, TreeErr>
         requires { length src.now ≤ 2 ^ 24 }
         ensures parses { Parses src.now a.old a.new result }

@@ -1,5 +1,6 @@
 -- What it costs to append a node to a list.
-use Rattle.std.proofs.Common.{◌≡◌, ℕ, ◌+◌, ◌-◌, ◌*◌, ◌^◌, ◌<◌, ◌≤◌, refl, sym, ap, subst, ◌∙◌, arith, IsTrue, Ok, Err, List, [], ◌∷◌, ◌++◌, length, length-append, ◌⊎◌, inl, inr, max, None}
+use Rattle.std.proofs.Common.{◌≡◌, ℕ, suc, ◌+◌, ◌-◌, ◌*◌, ◌^◌, ◌<◌, ◌≤◌, refl, sym, ap, subst, ◌∙◌, arith, IsTrue, Ok, Err, List, [], ◌∷◌, ◌++◌, length, length-append, ◌⊎◌, inl, inr, max, None}
+use Rattle.std.proofs.Math.Nat.{one-le-pow, pow-suc}
 use Rattle.std.proofs.lemmas.Bool.{cases_lt}
 use Rattle.std.specs.Prelude.{Result, Option, OnOk, OnErr}
 use Rattle.arena_rules.specs.Rounding.{is_layout}
@@ -29,7 +30,7 @@ use Rattle.arena_vec.specs.Vecs.{IsVecIn}
 use Rattle.arena_vec.specs.declared.vec.Vec.{Vec}
 use Rattle.tree_nodes.specs.NodeForms.{plain_88_8}
 use Rattle.tree_nodes.specs.TreesAt.{node_item}
-use Rattle.tree_nodes.specs.Layouts.{ListOf, LongerList}
+use Rattle.tree_nodes.specs.Layouts.{ListOf, LongerList, IsDoubled}
 use Rattle.tree_nodes.specs.Spending.{IsStarvedBehind, Stops, Spends, error_of}
 use Rattle.tree_nodes.specs.declared.node.Node.{Node}
 use Rattle.tree_nodes.proofs.SpendingLemmas.{frame_kind, spends_more, asks_of}
@@ -79,6 +80,28 @@ pub record Paid : Type 0 where
       → amortised size cap required ≡ max (2 * cap) required
   pub grows : (size cap required wanted : ℕ) → cap < required → required < 2 ^ 32 → required * size < 2 ^ 32
       → growth_to size cap required wanted ≡ GrowsTo wanted
+
+-- room for one more than a full list has is a power of two, if its capacity is one or 0
+pub more_doubled : (len cap : ℕ) → len ≤ cap → cap ≤ len → IsDoubled cap → (power : ℕ) × (max (2 * cap) (len + 1) ≡ 2 ^ power)
+more_doubled len cap within full (inl none) = (0, omega (arith, within, none))
+more_doubled len cap within full (inr is) =
+    (suc is.0, omega (arith, within, full, is.1, one-le-pow is.0 2 (omega arith), pow-suc 2 is.0))
+
+-- What the capacity becomes for one more node.
+module _ (paid : Paid) (len cap : ℕ) (few : len ≤ 2 ^ 24) where
+  full_grows : cap < len + 1 → amortised_growth 88 cap (len + 1) ≡ GrowsTo (max (2 * cap) (len + 1))
+  full_grows full =
+      paid.grows 88 cap (len + 1) (amortised 88 cap (len + 1)) full (omega arith) (omega arith)
+      ∙ ap GrowsTo (paid.doubles 88 cap (len + 1) (omega (arith, full)) (omega (arith, full)))
+
+  pub cap_doubled : len ≤ cap → IsDoubled cap → IsDoubled (capacity_after (amortised_growth 88 cap (len + 1)) cap)
+  cap_doubled within doubled = by (cases_lt cap (len + 1))
+    where
+      by : (cap < len + 1) ⊎ (len + 1 ≤ cap) → IsDoubled (capacity_after (amortised_growth 88 cap (len + 1)) cap)
+      by (inl full) = subst (λ (g : Growth). IsDoubled (capacity_after g cap)) (sym (full_grows full))
+          (inr (more_doubled len cap within (omega (arith, full)) doubled))
+      by (inr room) = subst (λ (g : Growth). IsDoubled (capacity_after g cap))
+          (sym (paid.stays 88 cap (len + 1) (amortised 88 cap (len + 1)) room)) doubled
 
 module _ (paid : Paid) (old new : View) (v w : Vec Node) (list : List Node) (one : old.memory.state.min_align ≡ 1)
     (held : IsVecIn node_item old.memory v) (few : v.raw.len ≤ 2 ^ 24) (longer : length list ≡ v.raw.len + 1) where
@@ -140,12 +163,8 @@ module _ (paid : Paid) (old new : View) (v w : Vec Node) (list : List Node) (one
     where
       by : (v.raw.cap < v.raw.len + 1) ⊎ (v.raw.len + 1 ≤ v.raw.cap) → LongerList v.raw.len v.raw.cap (more * 88) 8
       by (inl full) =
-          let wanted = amortised 88 v.raw.cap (v.raw.len + 1) in
-          let is_wanted : GrowsTo wanted ≡ GrowsTo more
-          = sym (paid.grows 88 v.raw.cap (v.raw.len + 1) wanted full (omega arith) (omega arith)) ∙ is ∙ grown in
-          let twice : wanted ≡ max (2 * v.raw.cap) (v.raw.len + 1)
-          = paid.doubles 88 v.raw.cap (v.raw.len + 1) (omega (arith, full)) (omega (arith, full)) in
-          (omega (arith, full), (ap (λ n. n * 88) (sym (same_more wanted more is_wanted) ∙ twice), refl))
+          let same = sym grown ∙ sym is ∙ full_grows paid v.raw.len v.raw.cap few full in
+          (omega (arith, full), (ap (λ n. n * 88) (same_more more (max (2 * v.raw.cap) (v.raw.len + 1)) same), refl))
       by (inr room) = absurd (stays_grows more (sym (paid.stays 88 v.raw.cap (v.raw.len + 1) _ room) ∙ is ∙ grown))
 
   denied : (g : Growth) (k : ℕ) → growth ≡ g → Pushes (Err (AllocErr k)) → IsDenied (LongerList v.raw.len v.raw.cap) new

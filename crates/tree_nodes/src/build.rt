@@ -7,7 +7,7 @@ ghost use Rattle.tree_rules.specs.Trees.{Expr};
 ghost use Rattle.tree_nodes.specs.TreesAt.{node_item, kids_of, no_kids, IsPlaced};
 ghost use Rattle.tree_nodes.specs.Subtrees.{Subtree, OfExpr, IsTreePlaced, IsRowBuilt};
 ghost use Rattle.tree_nodes.specs.NodeForms.{number_node, no_text};
-ghost use Rattle.tree_nodes.specs.Layouts.{ListOf, LongerList};
+ghost use Rattle.tree_nodes.specs.Layouts.{ListOf, LongerList, IsDoubled};
 ghost use Rattle.tree_nodes.specs.Spending.{Spends, error_of, node_cost, credit};
 
 use crate::clone_list::roomy;
@@ -92,6 +92,7 @@ pub fn push_node<C: ChunkSource>(
     ensures spends { Spends (LongerList list.old.raw.len list.old.raw.cap) node_cost (credit list.old)
         (credit list.new) a.old a.new (error_of result) }
     ensures len { OnOk result (list.new.raw.len ≡ list.old.raw.len + 1) }
+    ensures cap { IsDoubled list.old.raw.cap → OnOk result (IsDoubled list.new.raw.cap) }
     ensures err { OnErr result ((list.new ≡ list.old) × (a.new.memory ≡ a.old.memory)) }
     ensures frame { Frame a.old.memory a.new.memory (list.old.raw.block ∷ []) (list.new.raw.block ∷ []) }
 {

@@ -1,5 +1,5 @@
-use Rattle.std.proofs.Common.{List, ◌∷◌, refl, arith}
-use Rattle.arena_tree.proofs.AskedLemmas.{asked_list, asked_longer, asked_name}
+use Rattle.std.proofs.Common.{List, ◌∷◌, refl, inr, arith}
+use Rattle.arena_tree.proofs.AskedLemmas.{asked_name, asked_list, asked_longer}
 use Rattle.tree_nodes.proofs.SpendingLemmas.{spends_nothing, spends_then, spends_more, asks_of, asks_any, frees, frees_then, range_length}
 use Rattle.arena_tree.proofs.PartCostLemmas.{kid_read, kid_negated, err_up_to}
 use Rattle.std.specs.Prelude.{slice_range}
@@ -10,6 +10,7 @@ use Rattle.tree_rules.specs.declared.machine.Open.TheVariants.{Paren, Sign}
 use Rattle.tree_rules.specs.declared.machine.Mode.TheVariants.{AtFactor, BehindFactor}
 use Rattle.arena_tree.specs.Subtrees.{OfExpr}
 use Rattle.arena_tree.specs.Parts.{behind_factor}
+use Rattle.arena_tree.specs.Layouts.{ATerm, AFactor, ANegated}
 use Rattle.tree_nodes.proofs.BuildLemmas.{prod_placed, number_placed}
 use Rattle.tree_nodes.proofs.RowLemmas.{row_held, exprs_built, exprs_more}
 use Rattle.arena_tree.proofs.PartLemmas.{reads_token, reads_then, reads_in, reads_next, opens_paren, opens_sign, reads_star, reads_sign, joined, reads_terms, terms_more, terms_placed}
@@ -76,6 +77,7 @@ term-loop-stop-init g t c =
     let star = c.in-Some.ensures.some in
     record {
       few = omega arith;
+      doubled = inr (1, l.cap);
       spends = asks_any (spends_then k.spends l.spends (frees k.tree.placed.frame) (omega arith) (omega arith) (omega arith));
       read = record {
         part = OneFactor k.tree.part;
@@ -97,6 +99,7 @@ term-loop-stop-preserved g t c =
     let read = kid_read _ i.read.later k.tree.later i.spends k.spends (frees i.read.built.frame) in
     record {
       few = omega arith;
+      doubled = put.cap i.doubled;
       spends = asks_any
           (spends_then read put.spends (frees_then i.read.built.frame k.tree.placed.frame) (omega arith) (omega arith) (omega arith));
       read = record {
@@ -133,6 +136,7 @@ expr-loop-stop-init g t c =
     let sign = c.in-Some.ensures.some in
     record {
       few = omega arith;
+      doubled = inr (1, l.cap);
       spends = asks_any (spends_then k.spends l.spends (frees k.tree.placed.frame) (omega arith) (omega arith) (omega arith));
       read = record {
         part = OneTerm k.tree.part;
@@ -157,6 +161,7 @@ expr-loop-stop-preserved g t c =
     let negated = kid_negated _ read c.in_ok-sign.ensures.spends (frees_then i.read.built.frame k.tree.placed.frame) in
     record {
       few = omega arith;
+      doubled = put.cap i.doubled;
       spends = asks_any
           (spends_then negated put.spends (frees_then i.read.built.frame placed.frame) (omega arith) (omega arith) (omega arith));
       read = record {
@@ -215,7 +220,7 @@ pub minus-returns-in_err-negate-clause-spends : goal.minus-returns-in_err-negate
 minus-returns-in_err-negate-clause-spends g t c =
     let minus = c.requires.start in
     let k = c.in_ok-end.ensures in
-    err_up_to _ _ _ _ c.from_residual-in_err-negate.ensures (asks_of (asked_list 1 (omega (arith, k.tree.within, k.tree.later)))
+    err_up_to _ _ _ _ c.from_residual-in_err-negate.ensures (asks_of (asked_list ANegated (opens_sign minus.0) 0 (omega arith))
     (spends_then k.spends c.in_err-negate.ensures.spends (frees k.tree.placed.frame) (omega arith) (omega arith) (omega arith)))
 
 pub paren-returns-clause-spends : goal.paren-returns-clause-spends
@@ -233,7 +238,8 @@ pub term-returns-in_err-list-clause-spends : goal.term-returns-in_err-list-claus
 term-returns-in_err-list-clause-spends g t c =
     let k = c.in_ok-end.ensures in
     let star = c.in-Some.ensures.some in
-    err_up_to _ _ _ _ c.from_residual-in_err-list.ensures (asks_of (asked_list 2 (omega (arith, k.tree.later, star.later, star.within)))
+    let read = reads_then k.tree.read (reads_star star) in
+    err_up_to _ _ _ _ c.from_residual-in_err-list.ensures (asks_of (asked_list (AFactor (OneFactor k.tree.part)) read 1 (omega arith))
     (spends_then k.spends c.in_err-list.ensures.spends (frees k.tree.placed.frame) (omega arith) (omega arith) (omega arith)))
 
 pub term-returns-in_err-stop-clause-spends : goal.term-returns-in_err-stop-clause-spends
@@ -248,7 +254,7 @@ term-returns-in_err-push_node-clause-spends g t c =
     let k = c.in_ok-stop.ensures in
     let read = kid_read _ i.read.later k.tree.later i.spends k.spends (frees i.read.built.frame) in
     err_up_to _ _ _ _ c.from_residual-in_err-push_node.ensures
-    (asks_of (asked_longer c.loop-stop.list.raw.len c.loop-stop.list.raw.cap (omega (arith, i.few, i.read.later, k.tree.later, k.tree.within)))
+    (asks_of (asked_longer (AFactor i.read.part) i.read.read i.read.built i.doubled)
     (spends_then read c.in_err-push_node.ensures.spends (frees_then i.read.built.frame k.tree.placed.frame) (omega arith) (omega arith)
     (omega arith)))
 
@@ -264,7 +270,9 @@ pub expr-returns-in_err-list-clause-spends : goal.expr-returns-in_err-list-claus
 expr-returns-in_err-list-clause-spends g t c =
     let k = c.in_ok-end.ensures in
     let sign = c.in-Some.ensures.some in
-    err_up_to _ _ _ _ c.from_residual-in_err-list.ensures (asks_of (asked_list 2 (omega (arith, k.tree.later, sign.later, sign.within)))
+    let minus = c.in-Some.minus in
+    let read = reads_then k.tree.read (reads_sign minus sign) in
+    err_up_to _ _ _ _ c.from_residual-in_err-list.ensures (asks_of (asked_list (ATerm (OneTerm k.tree.part) minus) read 1 (omega arith))
     (spends_then k.spends c.in_err-list.ensures.spends (frees k.tree.placed.frame) (omega arith) (omega arith) (omega arith)))
 
 pub expr-returns-in_err-stop-clause-spends : goal.expr-returns-in_err-stop-clause-spends
@@ -278,7 +286,8 @@ expr-returns-in_err-sign-clause-spends g t c =
     let i = c.loop-stop.invariant in
     let k = c.in_ok-stop.ensures in
     let read = kid_read _ i.read.later k.tree.later i.spends k.spends (frees i.read.built.frame) in
-    err_up_to _ _ _ _ c.from_residual-in_err-sign.ensures (asks_of (asked_list 1 (omega (arith, k.tree.later, k.tree.within)))
+    err_up_to _ _ _ _ c.from_residual-in_err-sign.ensures
+    (asks_of (asked_list (ATerm i.read.part c.loop-stop.minus) i.read.read 0 (omega arith))
     (spends_then read c.in_err-sign.ensures.spends (frees_then i.read.built.frame k.tree.placed.frame) (omega arith) (omega arith)
     (omega arith)))
 
@@ -290,7 +299,7 @@ expr-returns-in_err-push_node-clause-spends g t c =
     let read = kid_read _ i.read.later k.tree.later i.spends k.spends (frees i.read.built.frame) in
     let negated = kid_negated _ read c.in_ok-sign.ensures.spends (frees_then i.read.built.frame k.tree.placed.frame) in
     err_up_to _ _ _ _ c.from_residual-in_err-push_node.ensures
-    (asks_of (asked_longer c.loop-stop.list.raw.len c.loop-stop.list.raw.cap (omega (arith, i.few, i.read.later, k.tree.later, k.tree.within)))
+    (asks_of (asked_longer (ATerm i.read.part c.loop-stop.minus) i.read.read i.read.built i.doubled)
     (spends_then negated c.in_err-push_node.ensures.spends (frees_then i.read.built.frame placed.frame) (omega arith) (omega arith)
     (omega arith)))
 

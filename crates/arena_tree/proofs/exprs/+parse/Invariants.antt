@@ -1,5 +1,6 @@
 use Rattle.std.proofs.Common.{length, ◌+◌, ◌-◌, ◌*◌, ◌≤◌}
 use Rattle.arena_tree.specs.Parts.{AreFactors, AreTerms}
+use Rattle.arena_tree.specs.Layouts.{IsDoubled}
 use Rattle.arena_tree.specs.Spending.{SpendsOnList}
 use Rattle.arena_tree.proofs.exprs.+parse.Given as goal
 
@@ -22,6 +23,7 @@ abbrev pub invariant-expr-loop-stop : goal.invariant-expr-loop-stop
 invariant-expr-loop-stop g l = record {
   read : AreTerms l.src l.at l.here l.minus l.fn.a.memory l.a.memory l.list;
   few : 2 * l.list.raw.len ≤ l.here - l.at;
+  doubled : IsDoubled l.list.raw.cap;
   spends : SpendsOnList l.src (l.here - l.at) l.fn.a l.a l.list;
 }
 
@@ -32,6 +34,7 @@ abbrev pub invariant-term-loop-stop : goal.invariant-term-loop-stop
 invariant-term-loop-stop g l = record {
   read : AreFactors l.src l.at l.here l.fn.a.memory l.a.memory l.list;
   few : 2 * l.list.raw.len ≤ l.here - l.at;
+  doubled : IsDoubled l.list.raw.cap;
   spends : SpendsOnList l.src (l.here - l.at) l.fn.a l.a l.list;
 }
 

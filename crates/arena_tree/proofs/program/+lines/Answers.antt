@@ -1,4 +1,4 @@
-use Rattle.std.proofs.Common.{suc, refl, ap, ◌∙◌, ◌∷◌, arith, ◌+◌, ◌-◌}
+use Rattle.std.proofs.Common.{suc, refl, ap, ◌∙◌, inl, ◌∷◌, arith, ◌+◌, ◌-◌}
 use Rattle.arena_tree.specs.Spending.{most_for, credit}
 use Rattle.arena_tree.proofs.AskedLemmas.{asked_longer}
 use Rattle.tree_nodes.proofs.SpendingLemmas.{asks_of, asks_any, spends_nothing, spends_then, spends_more, frees, frees_then}
@@ -6,6 +6,8 @@ use Rattle.arena_tree.proofs.PartCostLemmas.{err_all, err_or_not}
 use Rattle.arena_store.specs.declared.block.Block.{Block}
 use Rattle.tree_rules.specs.Tokens.{LeftBrace}
 use Rattle.tree_rules.specs.Grammar.{BlockLine, Empty, Next, spell, line_tree, trees_of}
+use Rattle.arena_tree.specs.Parts.{Reads}
+use Rattle.arena_tree.specs.Layouts.{ALine, spell_to}
 use Rattle.arena_tree.specs.Subtrees.{OfStmt}
 use Rattle.arena_tree.specs.LineParts.{at_line}
 use Rattle.tree_nodes.proofs.LinesLemmas.{block_placed}
@@ -47,6 +49,7 @@ lines-loop-list-init g t c =
     let list = c.new_in-list.ensures in
     record {
       few = omega (arith, list.len);
+      doubled = inl list.cap;
       spends = spends_nothing _ 0 _ c.args.a.now (omega (arith, list.len));
       read = record {
         part = Empty;
@@ -67,6 +70,7 @@ lines-loop-list-preserved g t c =
     (frees i.read.built.frame) (omega arith) (omega arith) (omega arith) in
     record {
       few = omega arith;
+      doubled = push.cap i.doubled;
       spends = asks_any
           (spends_then read push.spends (frees_then i.read.built.frame k.tree.placed.frame) (omega arith) (omega arith) (omega arith));
       read = record {
@@ -109,7 +113,13 @@ lines-returns-in_err-push_node-in-Some-clause-spends g t c =
     let k = rw c.in-Some.is at c.in_ok-line.ensures in
     let read = spends_then {all = most_for (c.in-Some.end - c.args.at)} {rest = 512 + credit c.loop-list.list} i.spends k.spends
     (frees i.read.built.frame) (omega arith) (omega arith) (omega arith) in
+    let line : Reads c.args.src.now c.args.at c.in-Some.end (spell_to (ALine i.read.part k.tree.part)) at_line at_line = record {
+      tokens_are = i.read.tokens_are ∙ ap (spell i.read.part) k.tree.tokens_are;
+      passes = λ depth p. k.tree.passes depth (i.read.passes depth p);
+      later = omega (arith, i.read.later, k.tree.later);
+      within = k.tree.within;
+    } in
     err_all _ _ _ _ c.from_residual-in_err-push_node-in-Some.ensures
-    (asks_of (asked_longer c.loop-list.list.raw.len c.loop-list.list.raw.cap (omega (arith, i.few, k.tree.long, k.tree.within)))
+    (asks_of (asked_longer (ALine i.read.part k.tree.part) line i.read.built i.doubled)
     (spends_then read c.in_err-push_node-in-Some.ensures.spends (frees_then i.read.built.frame k.tree.placed.frame) (omega arith)
     (omega arith) (omega arith)))

@@ -1,11 +1,12 @@
 use Rattle.std.proofs.Common.{arith, refl, ◌-◌}
 use Rattle.arena_tree.specs.Spending.{most_for}
-use Rattle.arena_tree.proofs.AskedLemmas.{asked_list, asked_name}
+use Rattle.arena_tree.proofs.AskedLemmas.{asked_name, asked_list}
 use Rattle.tree_nodes.proofs.SpendingLemmas.{asks_of, asks_any, spends_then, spends_more, frees, frees_then, range_length}
 use Rattle.arena_tree.proofs.PartCostLemmas.{err_up_to}
 use Rattle.std.specs.Prelude.{slice_range}
 use Rattle.tree_rules.specs.Trees.{NoExprs, And}
-use Rattle.tree_rules.specs.Grammar.{LetLine, terms_tree}
+use Rattle.tree_rules.specs.Grammar.{LetLine, Empty, terms_tree}
+use Rattle.arena_tree.specs.Layouts.{ALine}
 use Rattle.arena_tree.specs.LineParts.{braces}
 use Rattle.tree_nodes.proofs.LinesLemmas.{let_node_placed}
 use Rattle.tree_nodes.proofs.RowLemmas.{exprs_built}
@@ -51,8 +52,10 @@ returns-in_err-wrap-clause-spends g c =
     let e = c.in_ok-stop.ensures in
     let read = spends_then {all = most_for (c.in_ok-stop.stop - c.args.at)} {rest = 512} text.spends e.spends (frees text.frame)
     (omega arith) (omega arith) (omega arith) in
+    let line = reads_then c.requires.first (reads_value e.tree.read c.semicolon_at-last.ensures) in
+    let name = slice_range c.args.src.now c.args.begin c.args.end in
     err_up_to _ _ _ _ c.from_residual-in_err-wrap.ensures
-    (asks_of (asked_list 1 (omega (arith, e.tree.later, e.tree.within)))
+    (asks_of (asked_list (ALine Empty (LetLine name e.tree.part)) line 0 (omega arith))
     (spends_then read c.in_err-wrap.ensures.spends (frees_then text.frame e.tree.placed.frame) (omega arith) (omega arith) (omega arith)))
 
 pub returns-clause-spends : goal.returns-clause-spends

@@ -3,7 +3,8 @@ use Rattle.arena_tree.proofs.AskedLemmas.{asked_list}
 use Rattle.tree_nodes.proofs.SpendingLemmas.{asks_of, asks_any, spends_then, frees}
 use Rattle.arena_tree.proofs.PartCostLemmas.{err_up_to}
 use Rattle.tree_rules.specs.Trees.{NoExprs, And}
-use Rattle.tree_rules.specs.Grammar.{ShowLine, terms_tree}
+use Rattle.tree_rules.specs.Grammar.{ShowLine, Empty, terms_tree}
+use Rattle.arena_tree.specs.Layouts.{ALine}
 use Rattle.arena_tree.specs.LineParts.{braces}
 use Rattle.tree_nodes.proofs.LinesLemmas.{show_placed}
 use Rattle.tree_nodes.proofs.RowLemmas.{exprs_built}
@@ -36,7 +37,9 @@ returns-clause-tree g c =
 pub returns-in_err-wrap-clause-spends : goal.returns-in_err-wrap-clause-spends
 returns-in_err-wrap-clause-spends g c =
     let e = c.in_ok-stop.ensures in
-    err_up_to _ _ _ _ c.from_residual-in_err-wrap.ensures (asks_of (asked_list 1 (omega (arith, e.tree.later, e.tree.within)))
+    let line = reads_value e.tree.read c.semicolon_at-last.ensures in
+    err_up_to _ _ _ _ c.from_residual-in_err-wrap.ensures
+    (asks_of (asked_list (ALine Empty (ShowLine e.tree.part)) line 0 (omega arith))
     (spends_then e.spends c.in_err-wrap.ensures.spends (frees e.tree.placed.frame) (omega arith) (omega arith) (omega arith)))
 
 pub returns-in_err-stop-clause-spends : goal.returns-in_err-stop-clause-spends

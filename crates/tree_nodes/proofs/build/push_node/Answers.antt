@@ -1,10 +1,11 @@
 use Rattle.std.proofs.lemmas.Result.{on_ok_weaker}
 use Rattle.tree_nodes.proofs.RowLemmas.{row_more}
-use Rattle.std.proofs.Common.{◌∙◌}
+use Rattle.std.proofs.Common.{sym, subst, ◌∙◌}
 use Rattle.arena_items.proofs.Layers.{length-elements}
 use Rattle.arena_vec.specs.Vecs.{vec_list}
+use Rattle.tree_nodes.specs.Layouts.{IsDoubled}
 use Rattle.tree_nodes.specs.TreesAt.{node_item}
-use Rattle.tree_nodes.proofs.NodeCostLemmas.{node_spends, pushed_length}
+use Rattle.tree_nodes.proofs.NodeCostLemmas.{node_spends, cap_doubled, pushed_length}
 use Rattle.tree_nodes.proofs.build.push_node.Goals as goal
 
 pub returns-clause-row : goal.returns-clause-row
@@ -31,6 +32,19 @@ pub returns-clause-len : goal.returns-clause-len
 returns-clause-len g c =
     on_ok_weaker c.push.result (λ is. is ∙ pushed_length (vec_list node_item c.args.a.now.memory c.args.list.now) c.args.node
     c.args.list.now.raw.len (length-elements 88 node_item.decoded c.args.list.now.raw.len _)) c.push.ensures.len
+
+pub returns-clause-cap : goal.returns-clause-cap
+returns-clause-cap g c = λ doubled.
+    let after = cap_doubled (record {
+      keeps = c.growth_costs.ensures.keeps;
+      asks = c.growth_costs.ensures.asks;
+      fits = c.vector_costs.ensures.fits;
+      stays = c.growth_rule.ensures.stays;
+      doubles = c.growth_rule.ensures.doubles;
+      grows = c.growth_rule.ensures.grows;
+    })
+    c.args.list.now.raw.len c.args.list.now.raw.cap c.requires.few c.requires.held.within doubled in
+    on_ok_weaker c.push.result (λ is. subst IsDoubled (sym is) after) c.push.ensures.cap
 
 pub returns-clause-err : goal.returns-clause-err
 returns-clause-err g c = c.push.ensures.err
