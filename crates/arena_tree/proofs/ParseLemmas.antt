@@ -1,6 +1,6 @@
 -- What calls on whole trees return and take, by what their parts spend.
-use Rattle.std.proofs.Common.{◌≡◌, ℕ, ◌^◌, ◌<◌, ◌≤◌, ◌⊎◌, inl, inr, refl, arith, true, Err, Some, List, []}
-use Rattle.std.specs.Prelude.{Option}
+use Rattle.std.proofs.Common.{◌≡◌, ℕ, ◌^◌, ◌<◌, ◌≤◌, ◌⊎◌, inl, inr, refl, sym, ◌∙◌, subst, arith, true, Ok, Err, Some, None, List, [], length}
+use Rattle.std.specs.Prelude.{Option, Result}
 use Rattle.std.proofs.lemmas.Bool.{cases_lt}
 use Rattle.arena_rules.specs.State.{allocated_bytes, top_of}
 use Rattle.arena_rules.proofs.AskingLemmas.{asks_more}
@@ -10,11 +10,20 @@ use Rattle.arena_chunks.specs.Asking.{IsStarved, IsRefusedBySource}
 use Rattle.arena_items.specs.Denied.{Layouts}
 use Rattle.arena_items.specs.declared.room.AllocError.{AllocError}
 use Rattle.arena_items.specs.declared.room.AllocError.TheVariants as alloc
+use Rattle.tree_rules.specs.Reading.{refusal_of, refused_by}
 use Rattle.tree_rules.specs.Refusals.{TreeOf}
+use Rattle.tree_rules.specs.Trees.{Stmts}
 use Rattle.tree_rules.specs.declared.refused.Refused.{Refused}
 use Rattle.tree_rules.specs.declared.refused.Refused.TheVariants.{Syntax, TooDeep, NumberTooBig}
-use Rattle.arena_tree.specs.Spending.{Spends, IsStarvedBehind}
-use Rattle.arena_tree.specs.Parsing.{Parses, TakesAtMost, IsShortOf, error_for}
+use Rattle.arena_tree.specs.Spending.{Spends, IsStarvedBehind, Stopped}
+use Rattle.arena_tree.specs.Stops.{OnText}
+use Rattle.arena_tree.specs.declared.stop.Stop.{Stop}
+use Rattle.arena_tree.specs.declared.stop.Stop.TheVariants.{AllocErr, OutOfMemory, Text}
+use Rattle.arena_tree.specs.declared.tree.Tree.{Tree}
+use Rattle.arena_tree.specs.declared.tree.TreeErr.{TreeErr}
+use Rattle.arena_tree.specs.declared.tree.TreeErr.TheVariants as tree
+use Rattle.arena_tree.proofs.LineLemmas.{none_some}
+use Rattle.arena_tree.specs.Parsing.{Parses, ParsesInOnePass, TakesAtMost, IsShortOf, parse_bytes, error_for, unplaced_by}
 
 pub refused_parses : (bytes : List ℕ) (a : View) (why : Refused) → TreeOf bytes (Err why) → Parses bytes a a (Err (error_for why))
 refused_parses bytes a (Syntax at) h = (h, refl)
@@ -51,3 +60,44 @@ short {layouts} {few} {old} {new} most k spends less =
       },
       spends.stops.1,
     )
+
+-- ---- Texts that are judged while they are placed, or before
+
+refused_meanwhile : (bytes : List ℕ) (old new : View) (why : Refused) → TreeOf bytes (Err why) → Frame old.memory new.memory [] []
+    → ParsesInOnePass bytes old new (Err (error_for why))
+refused_meanwhile bytes old new (Syntax at) h frame = (h, frame)
+refused_meanwhile bytes old new (TooDeep at) h frame = (h, frame)
+refused_meanwhile bytes old new (NumberTooBig at) h frame = (h, frame)
+
+-- why the parser stopped
+pub stopped_parses : (bytes : List ℕ) (old new : View) (r : Result Stmts Refused) → TreeOf bytes r → refusal_of bytes ≡ refused_by r
+    → (stop : Stop) → OnText {X = List ℕ} (Err stop) (refusal_of bytes ≡ None → ⊥) → Stopped 0 bytes old new stop
+    → ParsesInOnePass bytes old new (Err (unplaced_by (refusal_of bytes) stop))
+stopped_parses bytes old new (Err why) h is stop text spent =
+    subst (λ o. ParsesInOnePass bytes old new (Err (unplaced_by o stop))) (sym is) (refused_meanwhile bytes old new why h spent.1)
+stopped_parses bytes old new (Ok trees) h is stop text spent =
+    subst (λ o. ParsesInOnePass bytes old new (Err (unplaced_by o stop))) (sym is) (by stop text spent)
+  where
+    by : (s : Stop) → OnText {X = List ℕ} (Err s) (refusal_of bytes ≡ None → ⊥) → Stopped 0 bytes old new s
+        → ParsesInOnePass bytes old new (Err (unplaced_by None s))
+    by (AllocErr k) text spent =
+        let why = short (parse_bytes (length bytes)) k spent.0 (omega arith) in ((trees, h), why.0, why.1)
+    by OutOfMemory text spent = ((trees, h), spent.1)
+    by Text text spent = absurd (text is)
+
+-- A text that was judged before isn't refused.
+pub judged_parses : (bytes : List ℕ) (old new : View) (result : Result Tree TreeErr)
+    → ((r : Result Stmts Refused) → TreeOf bytes r → refusal_of bytes ≡ refused_by r) → refusal_of bytes ≡ None
+    → ParsesInOnePass bytes old new result → Parses bytes old new result
+judged_parses bytes old new result same none = by result
+  where
+    no : {P : Type 0} (why : Refused) → TreeOf bytes (Err why) → P
+    no why h = absurd (none_some why (sym none ∙ same (Err why) h))
+
+    by : (r : Result Tree TreeErr) → ParsesInOnePass bytes old new r → Parses bytes old new r
+    by (Ok t) h = h
+    by (Err (tree.Syntax at)) h = no (Syntax at) h.0
+    by (Err (tree.TooDeep at)) h = no (TooDeep at) h.0
+    by (Err (tree.NumberTooBig at)) h = no (NumberTooBig at) h.0
+    by (Err (tree.AllocErr k)) h = h
+    by (Err tree.OutOfMemory) h = h

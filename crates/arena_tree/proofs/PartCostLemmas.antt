@@ -1,14 +1,19 @@
 -- What it costs to read parts of a text: the children of a sum or a product, one after another, which are appended to
 -- a list, and parts of which one failed.
-use Rattle.std.proofs.Common.{ℕ, ◌+◌, ◌-◌, ◌<◌, arith, Option, Some, None, List, [], length}
-use Rattle.std.specs.Prelude.{Result}
+use Rattle.std.proofs.Common.{◌≡◌, ℕ, ◌+◌, ◌-◌, ◌<◌, ◌≤◌, arith, sym, subst, Option, Ok, Err, Some, None, List, []}
+use Rattle.std.specs.Prelude.{Result, IsErr, IsErrAnd}
+use Rattle.arena_store.specs.declared.block.Block.{Block}
+use Rattle.arena_chunks.proofs.Layers.{frame_reflexive, frame_then}
 use Rattle.arena_chunks.specs.Source.{View}
 use Rattle.arena_chunks.specs.Frame.{Frame}
 use Rattle.arena_items.specs.Denied.{Layouts}
 use Rattle.arena_items.specs.declared.room.AllocError.{AllocError}
-use Rattle.arena_tree.specs.Layouts.{AskedFor}
-use Rattle.arena_tree.specs.Spending.{Spends, node_cost, most_for, left_for_node, SpendsUpTo, SpendsAll, SpendsOrNot}
-use Rattle.tree_nodes.proofs.SpendingLemmas.{spends_then, IsHandedOn, handed_on}
+use Rattle.arena_items.specs.declared.room.AllocError.TheVariants as alloc
+use Rattle.arena_tree.specs.Stops.{stop_of, cause, OnText}
+use Rattle.arena_tree.specs.declared.stop.Stop.{Stop}
+use Rattle.arena_tree.specs.declared.stop.Stop.TheVariants.{AllocErr, OutOfMemory, Text}
+use Rattle.arena_tree.specs.Spending.{Spends, Stopped, node_cost, most_for, left_for_node, SpendsUpTo, SpendsAll, SpendsOrNot, SpendsWhole}
+use Rattle.tree_nodes.proofs.SpendingLemmas.{spends_nothing, spends_then, spends_more, asks_any, frees}
 
 -- A child is read after others. It may then be negated.
 pub kid_read : {some layouts : Layouts} {at here end : ℕ} {old one two : View} (saved : ℕ) → at < here → here < end
@@ -21,19 +26,68 @@ pub kid_negated : {some layouts : Layouts} {paid : ℕ} {old one two : View} (sa
     → Spends layouts node_cost 0 0 one two None → Frame old.memory one.memory [] [] → Spends layouts paid 0 (1177 + saved) old two None
 kid_negated saved read negated frame = spends_then read negated frame (omega arith) (omega arith) (omega arith)
 
+-- ---- Parts that weren't read whole
+
+-- A part was read, and then one that wasn't read whole.
+pub stops_then : {some layouts : Layouts} {one saved two spare left all : ℕ} {old mid new : View} (e : Stop)
+    → Spends some one 0 saved old mid None → Spends layouts two spare left mid new (cause e) × Frame mid.memory new.memory [] []
+    → Frame old.memory mid.memory [] [] → one ≤ all → one + two + spare ≤ all + saved
+    → Spends layouts all 0 0 old new (cause e) × Frame old.memory new.memory [] []
+stops_then {old = old} {mid} {new} e first second frame few fit =
+    (spends_then first second.0 frame few fit (omega (arith, fit)), frame_then old.memory mid.memory new.memory [] [] [] frame second.1)
+
+pub stops_more : {layouts : Layouts} {few many : ℕ} {old new : View} (e : Stop)
+    → Spends layouts few 0 0 old new (cause e) × Frame old.memory new.memory [] [] → few ≤ many
+    → Spends layouts many 0 0 old new (cause e) × Frame old.memory new.memory [] []
+stops_more e stopped less = (spends_more stopped.0 (omega (arith, less)) (omega (arith, less)), stopped.1)
+
+-- What the arena refused.
+pub arena_stops : {layouts : Layouts} {bytes before after : ℕ} {old new : View} (e : AllocError)
+    → Spends layouts bytes before after old new (Some e)
+    → Spends layouts bytes before after old new (cause (stop_of e)) × Frame old.memory new.memory [] []
+arena_stops (alloc.AllocErr k) spends = (spends, spends.stops.1)
+arena_stops alloc.OutOfMemory spends = (spends, spends.stops)
+arena_stops alloc.CapacityOverflow spends = absurd spends.stops
+
+-- What was read until the text was refused.
+pub text_stops : {some layouts : Layouts} {few left all : ℕ} {old new : View} {blocks : List Block} → Spends some few 0 left old new None
+    → Frame old.memory new.memory [] blocks → few ≤ all → Spends layouts all 0 0 old new None × Frame old.memory new.memory [] []
+text_stops spends frame less = (asks_any (spends_more spends (omega (arith, less)) (omega (arith, less))), frees frame)
+
+pub nothing_stops : (at : ℕ) (src : List ℕ) (a : View) → Stopped at src a a Text
+nothing_stops at src a = (spends_nothing _ 0 0 a (omega arith), frame_reflexive a.memory [])
+
 -- ---- What `?` passes on
 
-abbrev pub Stopped : ℕ → List ℕ → View → View → AllocError → Type 0
-Stopped at src old new e = Spends (AskedFor src) (most_for (length src - at)) 0 0 old new (Some e)
+abbrev pub IsPassedOn : {X : Type 0} → Result X Stop → Stop → Type 0
+IsPassedOn result e = IsErr result × IsErrAnd result (λ f. f ≡ e)
 
-pub err_up_to : {old new : View} (at : ℕ) (src : List ℕ) (result : Result ℕ AllocError) (e : AllocError) → IsHandedOn result e
+passed_on : {X : Type 0} (P : Result X Stop → Type 0) (result : Result X Stop) (e : Stop) → IsPassedOn result e → P (Err e) → P result
+passed_on P (Ok x) e is h = absurd is.1
+passed_on P (Err f) e is h = subst (λ d. P (Err d)) (sym is.1) h
+
+pub err_up_to : {old new : View} (at : ℕ) (src : List ℕ) (result : Result ℕ Stop) (e : Stop) → IsPassedOn result e
     → Stopped at src old new e → SpendsUpTo at src old new result
-err_up_to {old} {new} at src = handed_on (SpendsUpTo at src old new)
+err_up_to {old} {new} at src = passed_on (SpendsUpTo at src old new)
 
-pub err_all : {X : Type 0} {old new : View} (at : ℕ) (src : List ℕ) (result : Result (X × ℕ) AllocError) (e : AllocError)
-    → IsHandedOn result e → Stopped at src old new e → SpendsAll at src old new result
-err_all {X} {old} {new} at src = handed_on (SpendsAll at src old new)
+pub err_all : {X : Type 0} {old new : View} (at : ℕ) (src : List ℕ) (result : Result (X × ℕ) Stop) (e : Stop)
+    → IsPassedOn result e → Stopped at src old new e → SpendsAll at src old new result
+err_all {X} {old} {new} at src = passed_on (SpendsAll at src old new)
 
-pub err_or_not : {old new : View} (at : ℕ) (src : List ℕ) (result : Result (Option ℕ) AllocError) (e : AllocError)
-    → IsHandedOn result e → Stopped at src old new e → SpendsOrNot at src old new result
-err_or_not {old} {new} at src = handed_on (SpendsOrNot at src old new)
+pub err_or_not : {old new : View} (at : ℕ) (src : List ℕ) (result : Result (Option ℕ) Stop) (e : Stop)
+    → IsPassedOn result e → Stopped at src old new e → SpendsOrNot at src old new result
+err_or_not {old} {new} at src = passed_on (SpendsOrNot at src old new)
+
+pub err_whole : {X : Type 0} {old new : View} (src : List ℕ) (result : Result X Stop) (e : Stop)
+    → IsPassedOn result e → Stopped 0 src old new e → SpendsWhole src old new result
+err_whole {X} {old} {new} src = passed_on (SpendsWhole src old new)
+
+-- the text is why, there and before
+pub err_text : {X : Type 0} (Y P Q : Type 0) (result : Result X Stop) (e : Stop) → IsPassedOn result e → (P → Q)
+    → OnText {X = Y} (Err e) P → OnText result Q
+err_text {X} Y P Q result e is go h = passed_on (λ (r : Result X Stop). OnText r Q) result e is (by e h)
+  where
+    by : (s : Stop) → OnText {X = Y} (Err s) P → OnText {X = X} (Err s) Q
+    by (AllocErr k) h = tt
+    by OutOfMemory h = tt
+    by Text h = go h

@@ -1,6 +1,7 @@
--- What comes next in a text that isn't refused.
-use Rattle.std.proofs.Common.{◌≡◌, ◌==◌, ◌+◌, codes, ℕ, zero, Bool, true, false, cond, Option, Some, None, Ok, Err, List, [], ◌∷◌, length, refl, sym, ap, ◌∙◌, subst, arith}
-use Rattle.std.specs.Prelude.{Result, nat_lt, slice_index, slice_range, bytes_eq}
+-- What comes next in a text, and where it is refused.
+use Rattle.std.proofs.lemmas.Bool.Decides.{nat_tests}
+use Rattle.std.proofs.Common.{◌≡◌, ◌==◌, ◌+◌, ◌<◌, ◌≤◌, codes, ℕ, zero, Bool, true, false, cond, Option, Some, None, Ok, Err, List, [], ◌∷◌, length, refl, sym, ap, ◌∙◌, subst, arith}
+use Rattle.std.specs.Prelude.{Result, IfNone, nat_lt, slice_index, slice_range, bytes_eq}
 use Rattle.tree_rules.specs.Tokens.{Token, LetKey, Word, Plus, Star, RightParen, LeftBrace, RightBrace, Equals, Semicolon, Other, Placed, is_digit, is_name_start, word, sign}
 use Rattle.tree_rules.specs.Refusals.{most_nest}
 use Rattle.tree_rules.specs.Reading.{State, state, step, is_too_big, or_refused, judged, ended, refusal_from}
@@ -16,8 +17,8 @@ use Rattle.tree_reader.specs.declared.token.Seen.{Seen}
 use Rattle.tree_reader.specs.declared.token.Seen.TheVariants as seen
 use Rattle.tree_reader.proofs.JudgeLemmas.{judged_next, ended_next}
 use Rattle.tree_reader.proofs.ByteLemmas.{first_sign}
-use Rattle.arena_tree.specs.Parts.{IsPassed, behind_factor, IsTokenAt, TermsStop, MustClose}
-use Rattle.arena_tree.specs.LineParts.{braces, LinesStop, MustEnd, MustCloseBlock}
+use Rattle.arena_tree.specs.Parts.{IsPassed, IsTokenAt, TermsStop, NoFactor, NoClose}
+use Rattle.arena_tree.specs.LineParts.{braces, LinesStop, NoEnd}
 
 -- ---- One token
 
@@ -67,15 +68,40 @@ passed_token {bytes} {at} {end} {token} s t p =
     passed_from (length bytes) s (record { at = t.place; token = token }) (tokens_at bytes end)
     (subst (λ ts. refusal_from (length bytes) s ts ≡ None) t.tokens_are p)
 
--- the step that a token makes
-pub passed_to : {bytes : List ℕ} {at end : ℕ} {token : Token} (s next : State) → IsTokenAt bytes at token end → step s token ≡ Some next
-    → IsPassed bytes s at → IsPassed bytes next end
-passed_to {bytes} {at} {end} {token} s next t is p =
-    let q = passed_token s t p in
-    subst (λ (n : State). IsPassed bytes n end) (same_state q.next next (sym q.step_is ∙ is)) q.rest
-  where
-    same_state : (s t : State) → Some s ≡ Some t → s ≡ t
-    same_state s t e = cc
+-- Over a token that the grammar allows, by whether too many are then open and whether it is too big.
+limited : ℕ → State → Placed → List Placed → Bool → Bool → Option Refused
+limited size next t ts deep big =
+    then size ts (cond {A = Result State Refused} deep (Err (TooDeep t.at)) (cond big (Err (NumberTooBig t.at)) (Ok next)))
+
+allowed : (size : ℕ) (s next : State) (t : Placed) (ts : List Placed) → step s t.token ≡ Some next
+    → refusal_from size s (t ∷ ts) ≡ limited size next t ts (nat_lt most_nest (length next.opens)) (is_too_big t.token)
+unfolding refusal_from limited
+allowed size s next t ts is = ap (λ o. then size ts (or_refused t o)) is
+
+accepted : (size : ℕ) (s next : State) (t : Placed) (ts : List Placed) → step s t.token ≡ Some next → length next.opens ≤ most_nest
+    → is_too_big t.token ≡ false → refusal_from size s (t ∷ ts) ≡ refusal_from size next ts
+unfolding limited
+accepted size s next t ts is low small =
+    let test : nat_lt most_nest (length next.opens) ≡ false = grind (arith, nat_tests) in
+    allowed size s next t ts is ∙ ap (λ b. limited size next t ts b (is_too_big t.token)) test ∙ ap (limited size next t ts false) small
+
+deep_refused : (size : ℕ) (s next : State) (t : Placed) (ts : List Placed) → step s t.token ≡ Some next → most_nest < length next.opens
+    → refusal_from size s (t ∷ ts) ≡ Some (TooDeep t.at)
+unfolding limited
+deep_refused size s next t ts is deep =
+    let test : nat_lt most_nest (length next.opens) ≡ true = grind (arith, nat_tests) in
+    allowed size s next t ts is ∙ ap (λ b. limited size next t ts b (is_too_big t.token)) test
+
+module _ {bytes : List ℕ} {at end : ℕ} {token : Token} (s next : State) (t : IsTokenAt bytes at token end) (is : step s token ≡ Some next) where
+  pub goes_to : length next.opens ≤ most_nest → is_too_big token ≡ false
+      → refusal_from (length bytes) s (tokens_at bytes at) ≡ refusal_from (length bytes) next (tokens_at bytes end)
+  goes_to low small = ap (refusal_from (length bytes) s) t.tokens_are
+      ∙ accepted (length bytes) s next (record { at = t.place; token = token }) (tokens_at bytes end) is low small
+
+  pub too_deep : most_nest < length next.opens → IsPassed bytes s at → ⊥
+  too_deep deep p =
+      some_none (TooDeep t.place) (sym (ap (refusal_from (length bytes) s) t.tokens_are
+      ∙ deep_refused (length bytes) s next (record { at = t.place; token = token }) (tokens_at bytes end) is deep) ∙ p)
 
 -- ---- What is seen
 
@@ -123,10 +149,10 @@ module _ {bytes : List ℕ} {at : ℕ} {l : Lexeme} (n : IsNext bytes at l) wher
       by s q is other = absurd is
 
   -- after an expression in parentheses they close
-  pub only_close : MustClose bytes at → (l.seen ≡ seen.RightParen → ⊥) → ⊥
-  only_close m = by l.seen (passed_next n (state BehindFactor (Paren ∷ m.opens)) m.passed) (subst TermsStop n.tokens_are m.stop) n.seen
+  pub only_close : TermsStop (tokens_at bytes at) → (l.seen ≡ seen.RightParen → ⊥) → NoClose bytes at
+  only_close stop other opens p = by l.seen (passed_next n (state BehindFactor (Paren ∷ opens)) p) (subst TermsStop n.tokens_are stop) n.seen other
     where
-      by : (s : Seen) → Passed (length bytes) (state BehindFactor (Paren ∷ m.opens)) (like s) (tokens_at bytes l.end)
+      by : (s : Seen) → Passed (length bytes) (state BehindFactor (Paren ∷ opens)) (like s) (tokens_at bytes l.end)
           → TermsStop (record { at = l.at; token = n.token } ∷ tokens_at bytes l.end) → IsSeen s (slice_range bytes l.at l.end) n.token
           → (s ≡ seen.RightParen → ⊥) → ⊥
       by seen.RightParen q stop h other = other refl
@@ -136,11 +162,11 @@ module _ {bytes : List ℕ} {at : ℕ} {l : Lexeme} (n : IsNext bytes at l) wher
       by s q stop h other = not_some q.next q.step_is
 
   -- after a statement's expression a semicolon comes
-  pub only_semicolon : MustEnd bytes at → (l.seen ≡ seen.Semicolon → ⊥) → ⊥
-  only_semicolon m =
-      by l.seen m.depth (passed_next n (behind_factor (braces m.depth)) m.passed) (subst TermsStop n.tokens_are m.stop) n.seen
+  pub only_semicolon : TermsStop (tokens_at bytes at) → (l.seen ≡ seen.Semicolon → ⊥) → NoEnd bytes at
+  only_semicolon stop other deep p =
+      by l.seen deep (passed_next n (state BehindFactor (braces deep)) p) (subst TermsStop n.tokens_are stop) n.seen other
     where
-      by : (s : Seen) (depth : ℕ) → Passed (length bytes) (behind_factor (braces depth)) (like s) (tokens_at bytes l.end)
+      by : (s : Seen) (depth : ℕ) → Passed (length bytes) (state BehindFactor (braces depth)) (like s) (tokens_at bytes l.end)
           → TermsStop (record { at = l.at; token = n.token } ∷ tokens_at bytes l.end) → IsSeen s (slice_range bytes l.at l.end) n.token
           → (s ≡ seen.Semicolon → ⊥) → ⊥
       by seen.Semicolon depth q stop h other = other refl
@@ -151,8 +177,8 @@ module _ {bytes : List ℕ} {at : ℕ} {l : Lexeme} (n : IsNext bytes at l) wher
       by s depth q stop h other = not_some q.next q.step_is
 
   -- a block's end
-  pub only_brace : MustCloseBlock bytes at → (l.seen ≡ seen.RightBrace → ⊥) → ⊥
-  only_brace m = by l.seen n.seen (subst LinesStop n.tokens_are m.stop)
+  pub only_brace : LinesStop (tokens_at bytes at) → (l.seen ≡ seen.RightBrace → ⊥) → ⊥
+  only_brace stop = by l.seen n.seen (subst LinesStop n.tokens_are stop)
     where
       by : (s : Seen) → IsSeen s (slice_range bytes l.at l.end) n.token → n.token ≡ RightBrace → (s ≡ seen.RightBrace → ⊥) → ⊥
       by seen.RightBrace h is other = other refl
@@ -160,13 +186,13 @@ module _ {bytes : List ℕ} {at : ℕ} {l : Lexeme} (n : IsNext bytes at l) wher
 
   -- an expression, where no other statement begins
   pub expr_start : (l.seen ≡ seen.RightBrace → ⊥) → (l.seen ≡ seen.LeftBrace → ⊥) → (l.seen ≡ seen.LetKey → ⊥) → (opens : List Open)
-      → IsPassed bytes (state AtLine opens) at → IsPassed bytes (state AtFactor opens) at
-  expr_start right left key opens p =
+      → refusal_from (length bytes) (state AtLine opens) (tokens_at bytes at)
+      ≡ refusal_from (length bytes) (state AtFactor opens) (tokens_at bytes at)
+  expr_start right left key opens =
       let next : Placed = record { at = l.at; token = like l.seen } in
       let as_factor = judged (state AtFactor opens) next in
-      judged_next bytes at l (state AtFactor opens) as_factor n refl
-      ∙ sym (judged_next bytes at l (state AtLine opens) as_factor n (ap (or_refused next) (same l.seen right left key)))
-      ∙ p
+      judged_next bytes at l (state AtLine opens) as_factor n (ap (or_refused next) (same l.seen right left key))
+      ∙ sym (judged_next bytes at l (state AtFactor opens) as_factor n refl)
     where
       same : (s : Seen) → (s ≡ seen.RightBrace → ⊥) → (s ≡ seen.LeftBrace → ⊥) → (s ≡ seen.LetKey → ⊥)
           → step (state AtLine opens) (like s) ≡ step (state AtFactor opens) (like s)
@@ -203,26 +229,22 @@ no_factor opens b minus paren = rw (minus, paren) (by (b == 43) (b == 42) (b == 
     by false false false false false false true = refl
     by false false false false false false false = refl
 
--- and else a name
-pub starts_name : {bytes : List ℕ} {at here : ℕ} → IsBegin bytes at here → (opens : List Open) → IsPassed bytes (state AtFactor opens) at
-    → (slice_index bytes here == 45) ≡ false → (slice_index bytes here == 40) ≡ false → is_digit (slice_index bytes here) ≡ false
-    → is_name_start (slice_index bytes here) ≡ true
-starts_name {bytes} {at} {here} begin opens p minus paren digit = by (is_name_start (slice_index bytes here)) refl
-  where
-    by : (s : Bool) → is_name_start (slice_index bytes here) ≡ s → is_name_start (slice_index bytes here) ≡ true
-    by true is = is
-    by false is =
-        let q = passed_token (state AtFactor opens) (sign_token begin digit is) p in
-        absurd (not_some q.next (sym (no_factor opens (slice_index bytes here) minus paren) ∙ q.step_is))
+pub no_start : {bytes : List ℕ} {at here : ℕ} → IsBegin bytes at here → (slice_index bytes here == 45) ≡ false
+    → (slice_index bytes here == 40) ≡ false → is_digit (slice_index bytes here) ≡ false → is_name_start (slice_index bytes here) ≡ false
+    → NoFactor bytes at
+no_start {bytes} {at} {here} begin minus paren digit name opens p =
+    let q = passed_token (state AtFactor opens) (sign_token begin digit name) p in
+    not_some q.next (sym (no_factor opens (slice_index bytes here) minus paren) ∙ q.step_is)
 
--- which is not the keyword
-pub only_word : {bytes : List ℕ} {at end : ℕ} (name : List ℕ) (opens : List Open) → IsTokenAt bytes at (word name) end
-    → IsPassed bytes (state AtFactor opens) at → IsTokenAt bytes at (Word name) end
-only_word {bytes} {at} {end} name opens t p =
-    let q = passed_token (state AtFactor opens) t p in
-    subst (λ token. IsTokenAt bytes at token end) (by (bytes_eq name (codes "let")) q.next q.step_is) t
-  where
-    by : (b : Bool) (next : State) → step (state AtFactor opens) (cond b LetKey (Word name)) ≡ Some next
-        → cond b LetKey (Word name) ≡ Word name
-    by true next is = absurd (not_some next is)
-    by false next is = refl
+-- a word, by whether it is the keyword; the keyword begins no factor
+pub word_token : {bytes : List ℕ} {at end : ℕ} (name : List ℕ) (key : Bool) → key ≡ bytes_eq name (codes "let")
+    → IsTokenAt bytes at (word name) end → IsTokenAt bytes at (cond key LetKey (Word name)) end
+word_token {bytes} {at} {end} name key is t = subst (λ k. IsTokenAt bytes at (cond k LetKey (Word name)) end) (sym is) t
+
+pub no_keyword : {bytes : List ℕ} {at end : ℕ} → IsTokenAt bytes at LetKey end → NoFactor bytes at
+no_keyword t opens p = let q = passed_token (state AtFactor opens) t p in not_some q.next q.step_is
+
+-- what holds where nothing is returned
+pub if_none : {X : Type 0} (P : Type 0) (r : Option X) → P → IfNone r P
+if_none P None holds = holds
+if_none P (Some x) holds = tt

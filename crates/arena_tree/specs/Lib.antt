@@ -12,6 +12,7 @@ pub mod Printing
 pub mod Given
 pub mod Layouts
 pub mod Spending
+pub mod Stops
 pub mod Parsing
 pub mod Cloning
 pub mod Folding

@@ -1,5 +1,5 @@
 -- What parsing a text returns, and what it takes.
-use Rattle.std.specs.Prelude.{◌≡◌, ℕ, ◌+◌, ◌*◌, ◌^◌, ◌≤◌, true, false, List, [], length, Result, Ok, Err}
+use Rattle.std.specs.Prelude.{◌≡◌, ℕ, ◌+◌, ◌*◌, ◌^◌, ◌≤◌, true, false, List, [], length, Option, Some, None, Result, Ok, Err}
 use Rattle.arena_chunks.specs.Source.{View}
 use Rattle.arena_chunks.specs.Frame.{Frame}
 use Rattle.arena_chunks.specs.Asking.{AsksWithin, IsStarved, IsFull, IsCounted}
@@ -12,6 +12,8 @@ use Rattle.tree_rules.specs.declared.refused.Refused.TheVariants as refused
 use Rattle.arena_tree.specs.StmtsAt.{AreBuilt}
 use Rattle.arena_tree.specs.Layouts.{AskedFor}
 use Rattle.arena_tree.specs.Spending.{KeepsKind}
+use Rattle.arena_tree.specs.declared.stop.Stop.{Stop}
+use Rattle.arena_tree.specs.declared.stop.Stop.TheVariants as stop
 use Rattle.arena_tree.specs.declared.tree.Tree.{Tree}
 use Rattle.arena_tree.specs.declared.tree.TreeErr.{TreeErr}
 use Rattle.arena_tree.specs.declared.tree.TreeErr.TheVariants.{Syntax, TooDeep, NumberTooBig, AllocErr, OutOfMemory}
@@ -45,17 +47,27 @@ error_for (refused.NumberTooBig at) = NumberTooBig at
 abbrev pub IsProgramText : List ℕ → Type 0
 IsProgramText bytes = (trees : Stmts) × TreeOf bytes (Ok trees)
 
--- the text is refused for this reason, before anything is placed
-abbrev pub IsRefusedText : List ℕ → View → View → Refused → Type 0
-IsRefusedText bytes old new why = TreeOf bytes (Err why) × (new ≡ old)
+-- the error where the parser stopped, if the text is refused or not
+abbrev pub unplaced_by : Option Refused → Stop → TreeErr
+unplaced_by (Some why) stop = error_for why
+unplaced_by None (stop.AllocErr refused) = AllocErr refused
+unplaced_by None stop.OutOfMemory = OutOfMemory
+unplaced_by None stop.Text = OutOfMemory
 
 -- A text's tree is placed on blocks that were free and are apart from each other, or the text is refused, or a block of
--- its tree is.
-abbrev pub Parses : List ℕ → View → View → Result Tree TreeErr → Type 0
-Parses bytes old new (Ok t) = (trees : Stmts) × TreeOf bytes (Ok trees) × AreBuilt trees old.memory new.memory t.stmts
-Parses bytes old new (Err (Syntax at)) = IsRefusedText bytes old new (refused.Syntax at)
-Parses bytes old new (Err (TooDeep at)) = IsRefusedText bytes old new (refused.TooDeep at)
-Parses bytes old new (Err (NumberTooBig at)) = IsRefusedText bytes old new (refused.NumberTooBig at)
-Parses bytes old new (Err (AllocErr k)) =
+-- its tree is. A refused text leaves this.
+abbrev pub ParsesLeaving : (View → View → Type 0) → List ℕ → View → View → Result Tree TreeErr → Type 0
+ParsesLeaving Leaves bytes old new (Ok t) = (trees : Stmts) × TreeOf bytes (Ok trees) × AreBuilt trees old.memory new.memory t.stmts
+ParsesLeaving Leaves bytes old new (Err (Syntax at)) = TreeOf bytes (Err (refused.Syntax at)) × Leaves old new
+ParsesLeaving Leaves bytes old new (Err (TooDeep at)) = TreeOf bytes (Err (refused.TooDeep at)) × Leaves old new
+ParsesLeaving Leaves bytes old new (Err (NumberTooBig at)) = TreeOf bytes (Err (refused.NumberTooBig at)) × Leaves old new
+ParsesLeaving Leaves bytes old new (Err (AllocErr k)) =
     IsProgramText bytes × IsShortOf (AskedFor bytes) (parse_bytes (length bytes)) k old new × Frame old.memory new.memory [] []
-Parses bytes old new (Err OutOfMemory) = IsProgramText bytes × Frame old.memory new.memory [] []
+ParsesLeaving Leaves bytes old new (Err OutOfMemory) = IsProgramText bytes × Frame old.memory new.memory [] []
+
+-- all as it was, since the text is judged before anything is placed; or all that was in use, since it is judged meanwhile
+abbrev pub Parses : List ℕ → View → View → Result Tree TreeErr → Type 0
+Parses = ParsesLeaving (λ old new. new ≡ old)
+
+abbrev pub ParsesInOnePass : List ℕ → View → View → Result Tree TreeErr → Type 0
+ParsesInOnePass = ParsesLeaving (λ old new. Frame old.memory new.memory [] [])

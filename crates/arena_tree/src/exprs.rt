@@ -1,38 +1,43 @@
 // Reads texts that are programs, and places their trees.
 ghost use Rattle.std.specs.Prelude.{◌^◌, ◌≤◌, length, IfOk};
-ghost use Rattle.arena_tree.specs.Parts.{IsFactorPlace, IsStart, IsFactor, IsTerm, IsTerms};
+ghost use Rattle.tree_rules.specs.Refusals.{most_nest};
+ghost use Rattle.arena_tree.specs.Parts.{IsStart, IsFactor, IsTerm, IsTerms, NoFactorIn, NoTermsIn};
 ghost use Rattle.arena_tree.specs.Spending.{SpendsUpTo};
+ghost use Rattle.arena_tree.specs.Stops.{OnText};
 
 use crate::look::{Start, close_at, sign_at, star_at, start_at};
 use crate::signs::{negate, sign};
+use crate::stop::{MOST_OPEN, Parsed, Stop};
 use arena_chunks::{Allocator, ChunkSource};
-use arena_items::Grown;
 use tree_nodes::{Kind, Node, first_of, name_node, number, push_node, with_kids};
 
-// This function and the next ones each read a part, write its node, and return where it ends. Factors are inlined into
-// their callers; the rarer parts, which clear memory for their results, are not.
+// This function and the next ones each read a part, write its node, and return where it ends. So many are open before
+// it. Factors are inlined into their callers; the rarer parts, which clear memory for their results, are not.
 #[cycle(parse)]
 #[inline(always)]
 fn factor<C: ChunkSource>(
     a: &mut Allocator<C>,
     src: &[u8],
     at: usize,
+    deep: usize,
     node: &mut Node,
-) -> Grown<usize>
+) -> Parsed<usize>
     requires small { length src.now ≤ 2 ^ 24 }
     requires within { at ≤ length src.now }
-    requires place { IsFactorPlace src.now at }
-    ensures tree { IfOk result (λ end. IsFactor src.now at end a.old.memory a.new.memory node.new) }
+    requires nest { deep ≤ most_nest }
+    ensures tree { IfOk result (λ end. IsFactor deep src.now at end a.old.memory a.new.memory node.new) }
     ensures spends { SpendsUpTo at src.now a.old a.new result }
+    ensures text { OnText result (NoFactorIn deep src.now at) }
 {
     match start_at(src, at) {
-        Start::Number { n, end } => {
+        None => Err(Stop::Text),
+        Some(Start::Number { n, end }) => {
             *node = number(n);
             Ok(end)
         }
-        Start::Minus(behind) => minus(a, src, at, behind, node),
-        Start::Paren(behind) => paren(a, src, at, behind, node),
-        Start::Word { begin, end } => {
+        Some(Start::Minus(behind)) => minus(a, src, at, behind, deep, node),
+        Some(Start::Paren(behind)) => paren(a, src, at, behind, deep, node),
+        Some(Start::Word { begin, end }) => {
             name_node(a, &src[begin..end], node)?;
             Ok(end)
         }
@@ -47,15 +52,20 @@ fn minus<C: ChunkSource>(
     src: &[u8],
     at: usize,
     behind: usize,
+    deep: usize,
     node: &mut Node,
-) -> Grown<usize>
+) -> Parsed<usize>
     requires small { length src.now ≤ 2 ^ 24 }
     requires start { IsStart src.now at (Start.Minus behind) }
-    requires place { IsFactorPlace src.now at }
-    ensures tree { IfOk result (λ end. IsFactor src.now at end a.old.memory a.new.memory node.new) }
+    requires nest { deep ≤ most_nest }
+    ensures tree { IfOk result (λ end. IsFactor deep src.now at end a.old.memory a.new.memory node.new) }
     ensures spends { SpendsUpTo at src.now a.old a.new result }
+    ensures text { OnText result (NoFactorIn deep src.now at) }
 {
-    let end = factor(a, src, behind, node)?;
+    if deep == MOST_OPEN {
+        return Err(Stop::Text);
+    }
+    let end = factor(a, src, behind, deep + 1, node)?;
     negate(a, node)?;
     Ok(end)
 }
@@ -68,16 +78,24 @@ fn paren<C: ChunkSource>(
     src: &[u8],
     at: usize,
     behind: usize,
+    deep: usize,
     node: &mut Node,
-) -> Grown<usize>
+) -> Parsed<usize>
     requires small { length src.now ≤ 2 ^ 24 }
     requires start { IsStart src.now at (Start.Paren behind) }
-    requires place { IsFactorPlace src.now at }
-    ensures tree { IfOk result (λ end. IsFactor src.now at end a.old.memory a.new.memory node.new) }
+    requires nest { deep ≤ most_nest }
+    ensures tree { IfOk result (λ end. IsFactor deep src.now at end a.old.memory a.new.memory node.new) }
     ensures spends { SpendsUpTo at src.now a.old a.new result }
+    ensures text { OnText result (NoFactorIn deep src.now at) }
 {
-    let end = expr(a, src, behind, node)?;
-    Ok(close_at(src, end))
+    if deep == MOST_OPEN {
+        return Err(Stop::Text);
+    }
+    let end = expr(a, src, behind, deep + 1, node)?;
+    let Some(last) = close_at(src, end) else {
+        return Err(Stop::Text);
+    };
+    Ok(last)
 }
 
 #[cycle(parse)]
@@ -85,22 +103,24 @@ fn term<C: ChunkSource>(
     a: &mut Allocator<C>,
     src: &[u8],
     at: usize,
+    deep: usize,
     node: &mut Node,
-) -> Grown<usize>
+) -> Parsed<usize>
     requires small { length src.now ≤ 2 ^ 24 }
     requires within { at ≤ length src.now }
-    requires place { IsFactorPlace src.now at }
-    ensures tree { IfOk result (λ end. IsTerm src.now at end a.old.memory a.new.memory node.new) }
+    requires nest { deep ≤ most_nest }
+    ensures tree { IfOk result (λ end. IsTerm deep src.now at end a.old.memory a.new.memory node.new) }
     ensures spends { SpendsUpTo at src.now a.old a.new result }
+    ensures text { OnText result (NoTermsIn deep src.now at) }
 {
-    let end = factor(a, src, at, node)?;
+    let end = factor(a, src, at, deep, node)?;
     let Some(star) = star_at(src, end) else {
         return Ok(end);
     };
     let mut list = first_of(a, *node)?;
     let mut here = star;
     loop {
-        let stop = factor(a, src, here, node)?;
+        let stop = factor(a, src, here, deep, node)?;
         push_node(a, &mut list, *node)?;
         match star_at(src, stop) {
             Some(more) => here = more,
@@ -117,21 +137,23 @@ pub(crate) fn expr<C: ChunkSource>(
     a: &mut Allocator<C>,
     src: &[u8],
     at: usize,
+    deep: usize,
     node: &mut Node,
-) -> Grown<usize>
+) -> Parsed<usize>
     requires small { length src.now ≤ 2 ^ 24 }
     requires within { at ≤ length src.now }
-    requires place { IsFactorPlace src.now at }
-    ensures tree { IfOk result (λ end. IsTerms src.now at end a.old.memory a.new.memory node.new) }
+    requires nest { deep ≤ most_nest }
+    ensures tree { IfOk result (λ end. IsTerms deep src.now at end a.old.memory a.new.memory node.new) }
     ensures spends { SpendsUpTo at src.now a.old a.new result }
+    ensures text { OnText result (NoTermsIn deep src.now at) }
 {
-    let end = term(a, src, at, node)?;
+    let end = term(a, src, at, deep, node)?;
     let Some((mut minus, mut here)) = sign_at(src, end) else {
         return Ok(end);
     };
     let mut list = first_of(a, *node)?;
     loop {
-        let stop = term(a, src, here, node)?;
+        let stop = term(a, src, here, deep, node)?;
         sign(a, minus, node)?;
         push_node(a, &mut list, *node)?;
         match sign_at(src, stop) {

@@ -10,6 +10,7 @@ mod look;
 mod print;
 mod program;
 mod signs;
+mod stop;
 mod tree;
 
 pub use laws::tree_law;

@@ -1,15 +1,18 @@
 // Trees.
-ghost use Rattle.std.specs.Prelude.{◌≡◌, ◌^◌, ◌≤◌, length, IfOk};
+ghost use Rattle.std.specs.Prelude.{◌≡◌, ◌^◌, ◌≤◌, None, length, IfOk};
+ghost use Rattle.tree_rules.specs.Reading.{refusal_of};
+ghost use Rattle.arena_tree.specs.declared.stop.Stop.{Stop};
 ghost use Rattle.tree_rules.specs.Trees.{Stmts, text};
 ghost use Rattle.arena_tree.specs.Cloning.{Clones, clone_bytes};
 ghost use Rattle.arena_tree.specs.Given.{IsTreeIn, IsLeanTree, Means};
 ghost use Rattle.arena_tree.specs.Folding.{Folds};
-ghost use Rattle.arena_tree.specs.Parsing.{Parses, TakesAtMost, parse_bytes, error_for};
+ghost use Rattle.arena_tree.specs.Parsing.{Parses, ParsesInOnePass, TakesAtMost, parse_bytes, error_for, unplaced_by};
 
 use crate::clone::clone_row;
 use crate::fold::fold_row;
 use crate::print::{Stand, put_row};
-use crate::program::lines;
+use crate::program::program;
+use crate::stop::Stop;
 use arena_chunks::{Allocator, ChunkSource};
 use arena_items::AllocError;
 use arena_rules::OutOfMemory;
@@ -53,6 +56,21 @@ fn refused_as(refused: Refused) -> TreeErr
     }
 }
 
+// Why a text's tree wasn't placed: the text is refused, or else that is why the parser stopped.
+fn unplaced(src: &[u8], stop: Stop) -> TreeErr
+    requires { stop ≡ Stop.Text → refusal_of src.now ≡ None → ⊥ }
+    ensures { result ≡ unplaced_by (refusal_of src.now) stop }
+{
+    if let Some(refused) = refusal(src) {
+        return refused_as(refused);
+    }
+    match stop {
+        Stop::AllocErr { refused } => TreeErr::AllocErr { refused },
+        Stop::OutOfMemory => TreeErr::OutOfMemory,
+        Stop::Text => unreachable!(),
+    }
+}
+
 impl Tree {
     /// Places the tree of a text of at most 16,777,216 bytes. It takes at most 1024 bytes of the arena for each byte of
     /// the text, and 1024 more.
@@ -71,18 +89,33 @@ impl Tree {
         ensures lean { IfOk result (IsLeanTree a.new.memory) }
         ensures bytes { TakesAtMost (parse_bytes (length src.now)) a.old a.new }
     {
+        machine();
+        match refusal(src) {
+            Some(refused) => Err(refused_as(refused)),
+            None => Tree::parse_in_one_pass(a, src),
+        }
+    }
+
+    /// Places the tree of a text as [`Tree::parse`] does, but judges the text while it places the tree, not before. It
+    /// returns the same, and takes no more.
+    ///
+    /// # Errors
+    ///
+    /// Those of `parse`. Blocks that were placed until then stay in the arena, unused, even if the text is refused.
+    pub fn parse_in_one_pass<C: ChunkSource>(a: &mut Allocator<C>, src: &[u8]) -> Result<Tree, TreeErr>
+        requires { length src.now ≤ 2 ^ 24 }
+        ensures parses { ParsesInOnePass src.now a.old a.new result }
+        ensures tree { IfOk result (IsTreeIn a.new.memory) }
+        ensures lean { IfOk result (IsLeanTree a.new.memory) }
+        ensures bytes { TakesAtMost (parse_bytes (length src.now)) a.old a.new }
+    {
         some_reading();
         machine();
         one_program();
         well_formed();
-        if let Some(refused) = refusal(src) {
-            return Err(refused_as(refused));
-        }
-        match lines(a, src, 0) {
-            Ok((stmts, _end)) => Ok(Tree { stmts }),
-            Err(AllocError::AllocErr { refused }) => Err(TreeErr::AllocErr { refused }),
-            Err(AllocError::OutOfMemory) => Err(TreeErr::OutOfMemory),
-            Err(AllocError::CapacityOverflow) => unreachable!(),
+        match program(a, src) {
+            Ok(stmts) => Ok(Tree { stmts }),
+            Err(stop) => Err(unplaced(src, stop)),
         }
     }
 

@@ -1,53 +1,51 @@
-use Rattle.std.proofs.Common.{◌≤◌, ℕ, suc, refl, arith}
-use Rattle.tree_rules.specs.Tokens.{LetKey, LeftBrace}
-use Rattle.tree_rules.specs.Reading.{State, state}
-use Rattle.tree_rules.specs.declared.machine.Mode.TheVariants.{AtName, AtEquals}
-use Rattle.arena_tree.specs.LineParts.{braces, at_line, at_value}
-use Rattle.arena_tree.proofs.TokenLemmas.{token_seen, expr_start}
-use Rattle.arena_tree.proofs.PartLemmas.{reads_token, reads_then, opens_brace}
+use Rattle.std.proofs.Common.{◌≡◌, ℕ, List, ◌∷◌, Some, false, refl, arith}
+use Rattle.tree_rules.specs.Tokens.{Token, LetKey}
+use Rattle.tree_rules.specs.Reading.{State, state, step, is_too_big}
+use Rattle.tree_rules.specs.declared.machine.Mode.{Mode}
+use Rattle.tree_rules.specs.declared.machine.Mode.TheVariants.{AtLine, AtName, AtEquals, AtFactor}
+use Rattle.arena_tree.specs.Parts.{Reads, IsTokenAt}
+use Rattle.arena_tree.specs.LineParts.{Depth, braces, NoLine}
+use Rattle.arena_tree.proofs.TokenLemmas.{token_seen, expr_start, if_none}
+use Rattle.arena_tree.proofs.PartLemmas.{reads_token, reads_then, refused_then, braces_many}
 use Rattle.arena_tree.proofs.begin.line_at.Goals as goal
 
-abbrev at_name : ℕ → State
-at_name depth = state AtName (braces depth)
+abbrev in_mode : Mode → Depth → State
+in_mode mode d = state mode (braces d.depth)
 
-abbrev at_equals : ℕ → State
-at_equals depth = state AtEquals (braces depth)
+-- a token before which and after which the same is open
+stays : {bytes : List ℕ} {at end : ℕ} {token : Token} (before behind : Mode) → IsTokenAt bytes at token end → is_too_big token ≡ false
+    → ((d : Depth) → step (in_mode before d) token ≡ Some (in_mode behind d))
+    → Reads bytes at end (λ more. token ∷ more) (in_mode before) (in_mode behind)
+stays before behind t small steps =
+    reads_token (in_mode before) (in_mode behind) t small (λ d. omega (arith, braces_many d.depth, d.low)) steps
 
-pub name_at-begin-requires-clause-place : goal.name_at-begin-requires-clause-place
-name_at-begin-requires-clause-place c =
-    let place = c.requires.place in
+pub returns-in_err-begin-in-LetKey-clause-none : goal.returns-in_err-begin-in-LetKey-clause-none
+returns-in_err-begin-in-LetKey-clause-none c =
+    let key = stays AtLine AtName (token_seen LetKey c.in-Some.ensures.some c.in-LetKey.is (λ h. h)) refl (λ d. refl) in
+    if_none (NoLine c.args.src.now c.args.at) _ (refused_then key (λ d. c.in_err-begin-in-LetKey.ensures.none (braces d.depth)))
+
+pub returns-in_err-behind-in-LetKey-clause-none : goal.returns-in_err-behind-in-LetKey-clause-none
+returns-in_err-behind-in-LetKey-clause-none c =
+    let key = stays AtLine AtName (token_seen LetKey c.in-Some.ensures.some c.in-LetKey.is (λ h. h)) refl (λ d. refl) in
+    let name = stays AtName AtEquals c.in_ok-begin-in-LetKey.ensures.token refl (λ d. refl) in
+    if_none (NoLine c.args.src.now c.args.at) _
+    (refused_then (reads_then key name) (λ d. c.in_err-behind-in-LetKey.ensures.none (braces d.depth)))
+
+pub returns-in_ok-behind-in-LetKey-clause-some : goal.returns-in_ok-behind-in-LetKey-clause-some
+returns-in_ok-behind-in-LetKey-clause-some c =
     let t = token_seen LetKey c.in-Some.ensures.some c.in-LetKey.is (λ h. h) in
-    (braces place.0, (reads_token at_line at_name t (λ depth. refl)).passes place.0 place.1)
-
-pub equals_at-behind-requires-clause-place : goal.equals_at-behind-requires-clause-place
-equals_at-behind-requires-clause-place c =
-    let place = c.requires.place in
-    let t = token_seen LetKey c.in-Some.ensures.some c.in-LetKey.is (λ h. h) in
-    let key = reads_token at_line at_name t (λ depth. refl) in
-    let name = reads_token at_name at_equals c.name_at-begin.ensures.token (λ depth. refl) in
-    (braces place.0, (reads_then key name).passes place.0 place.1)
-
-pub returns-in-LeftBrace : goal.returns-in-LeftBrace
-returns-in-LeftBrace c =
-    let place = c.requires.place in
-    let t = token_seen LeftBrace c.in-Some.ensures.some c.in-LeftBrace.is (λ h. h) in
-    (t, (suc place.0, (opens_brace t).passes place.0 place.1), t.later, t.within)
-
-pub returns-in-LetKey : goal.returns-in-LetKey
-returns-in-LetKey c =
-    let place = c.requires.place in
-    let t = token_seen LetKey c.in-Some.ensures.some c.in-LetKey.is (λ h. h) in
-    let name = c.name_at-begin.ensures in
-    let equals = c.equals_at-behind.ensures in
-    let is = reads_then (reads_token at_line at_name t (λ depth. refl)) (reads_then (reads_token at_name at_equals name.token (λ depth.
-    refl)) (reads_token at_equals at_value equals (λ depth. refl))) in
-    let begins : c.args.at ≤ c.name_at-begin.result.0 = omega (arith, t.later, name.begin) in
-    let ends : c.name_at-begin.result.1 ≤ c.equals_at-behind.result = omega (arith, equals.later) in
-    (is, (braces place.0, is.passes place.0 place.1), is.later, is.within, name.range, name.token.within, begins, ends, (_, name.token))
+    let name = c.in_ok-begin-in-LetKey.ensures in
+    let equals = c.in_ok-behind-in-LetKey.ensures.some in
+    let key = stays AtLine AtName t refl (λ d. refl) in
+    let is = reads_then key (reads_then (stays AtName AtEquals name.token refl (λ d. refl))
+    (stays AtEquals AtFactor equals refl (λ d. refl))) in
+    (is, is.later, is.within, name.range, name.token.within, omega (arith, t.later, name.begin), omega (arith, equals.later),
+    (_, name.token))
 
 pub returns-in_default-seen : goal.returns-in_default-seen
 returns-in_default-seen c =
-    let place = c.requires.place in
     let arm = c.in_default-seen in
-    let starts = expr_start c.in-Some.ensures.some arm.not-RightBrace arm.not-LeftBrace arm.not-LetKey in
-    ((braces place.0, starts (braces place.0) place.1), (λ depth. starts (braces depth)))
+    record {
+      some = λ depth. expr_start c.in-Some.ensures.some arm.not-RightBrace arm.not-LeftBrace arm.not-LetKey (braces depth);
+      none = tt;
+    }

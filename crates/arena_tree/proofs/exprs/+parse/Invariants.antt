@@ -21,7 +21,7 @@ decreases-term g l = 4 * (length l.src.now - l.at) + 1
 
 abbrev pub invariant-expr-loop-stop : goal.invariant-expr-loop-stop
 invariant-expr-loop-stop g l = record {
-  read : AreTerms l.src l.at l.here l.minus l.fn.a.memory l.a.memory l.list;
+  read : AreTerms l.deep l.src l.at l.here l.minus l.fn.a.memory l.a.memory l.list;
   few : 2 * l.list.raw.len ≤ l.here - l.at;
   doubled : IsDoubled l.list.raw.cap;
   spends : SpendsOnList l.src (l.here - l.at) l.fn.a l.a l.list;
@@ -32,7 +32,7 @@ decreases-expr-loop-stop g l = length l.src - l.here
 
 abbrev pub invariant-term-loop-stop : goal.invariant-term-loop-stop
 invariant-term-loop-stop g l = record {
-  read : AreFactors l.src l.at l.here l.fn.a.memory l.a.memory l.list;
+  read : AreFactors l.deep l.src l.at l.here l.fn.a.memory l.a.memory l.list;
   few : 2 * l.list.raw.len ≤ l.here - l.at;
   doubled : IsDoubled l.list.raw.cap;
   spends : SpendsOnList l.src (l.here - l.at) l.fn.a l.a l.list;

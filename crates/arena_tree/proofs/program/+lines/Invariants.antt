@@ -4,15 +4,18 @@ use Rattle.arena_tree.specs.Layouts.{AskedFor, IsDoubled}
 use Rattle.arena_tree.specs.Spending.{Spends, most_for, credit}
 use Rattle.arena_tree.proofs.program.+lines.Given as goal
 
+abbrev pub decreases-block : goal.decreases-block
+decreases-block g l = 3 * (length l.src.now - l.behind) + 2
+
 abbrev pub decreases-line : goal.decreases-line
-decreases-line g l = 2 * (length l.src.now - l.at)
+decreases-line g l = 3 * (length l.src.now - l.at)
 
 abbrev pub decreases-lines : goal.decreases-lines
-decreases-lines g l = 2 * (length l.src.now - l.at) + 1
+decreases-lines g l = 3 * (length l.src.now - l.at) + 1
 
 abbrev pub invariant-lines-loop-list : goal.invariant-lines-loop-list
 invariant-lines-loop-list g l = record {
-  read : AreLines l.src l.at l.here l.fn.a.memory l.a.memory l.list;
+  read : AreLines l.deep l.src l.at l.here l.fn.a.memory l.a.memory l.list;
   few : 2 * l.list.raw.len ≤ l.here - l.at;
   doubled : IsDoubled l.list.raw.cap;
   spends : Spends (AskedFor l.src) (most_for (l.here - l.at)) 0 (credit l.list) l.fn.a l.a None;

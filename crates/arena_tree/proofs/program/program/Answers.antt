@@ -1,0 +1,22 @@
+use Rattle.std.proofs.Common.{arith}
+use Rattle.tree_nodes.proofs.SpendingLemmas.{spends_more}
+use Rattle.arena_tree.proofs.LineLemmas.{ends_all, more_left}
+use Rattle.arena_tree.proofs.PartCostLemmas.{text_stops}
+use Rattle.arena_tree.proofs.program.program.Goals as goal
+
+pub returns-in-None-clause-trees : goal.returns-in-None-clause-trees
+returns-in-None-clause-trees g c = ends_all c.in_ok-list.ensures.trees.0 c.in-None.ensures.none
+
+pub returns-in-Some-clause-text : goal.returns-in-Some-clause-text
+returns-in-Some-clause-text g c =
+    let k = c.in_ok-list.ensures.trees in more_left k.0 k.1 c.in-Some.ensures.some
+
+pub returns-in-None-clause-spends : goal.returns-in-None-clause-spends
+returns-in-None-clause-spends g c =
+    let k = c.in_ok-list.ensures in
+    spends_more k.spends (omega (arith, k.trees.0.within)) (omega (arith, k.trees.0.within))
+
+pub returns-in-Some-clause-spends : goal.returns-in-Some-clause-spends
+returns-in-Some-clause-spends g c =
+    let k = c.in_ok-list.ensures in
+    text_stops k.spends k.trees.0.built.frame (omega (arith, k.trees.0.within))
