@@ -27,7 +27,7 @@ use Rattle.tree_rules.specs.Weights.{weights}
 use Rattle.tree_rules.specs.declared.finding.Finding.{Finding}
 use Rattle.arena_tree.specs.Given.{IsTreeIn, Means}
 use Rattle.arena_tree.specs.Layouts.{AskedFor}
-use Rattle.arena_tree.specs.Parsing.{Parses, TakesAtMost, IsProgramText, parse_bytes}
+use Rattle.arena_tree.specs.Parsing.{ParsesInOnePass, TakesAtMost, IsProgramText, parse_bytes}
 use Rattle.arena_tree.specs.StmtsAt.{stmts_blocks}
 use Rattle.arena_tree.specs.TreesAt.{node_item}
 use Rattle.arena_tree.specs.Spending.{IsStarvedBehind}
@@ -93,7 +93,7 @@ given_is {m} {t} given trees means = one_stmts given.trees trees m (vec_list nod
 abbrev AreLight : Type 0
 AreLight = (bytes : List ℕ) (ss : Stmts) → TreeOf bytes (Ok ss) → weights ss ≤ length bytes
 
-pub parsed_light : (bytes : List ℕ) (old new : View) {t : Tree} → AreLight → length bytes ≤ 2 ^ 24 → Parses bytes old new (Ok t)
+pub parsed_light : (bytes : List ℕ) (old new : View) {t : Tree} → AreLight → length bytes ≤ 2 ^ 24 → ParsesInOnePass bytes old new (Ok t)
     → IsTreeIn new.memory t → IsLight new.memory t
 parsed_light bytes old new light small parsed given = record {
   tree = given;
@@ -169,7 +169,7 @@ module _ {bytes : List ℕ} {old new : View} {error : Option AllocError} (unused
       (λ no. absurd (cc))
 
   -- A text that has no tree is reported so.
-  pub unparsed : (why : TreeErr) → Parses bytes old new (Err why) → Lints bytes old new (unparsed_by new.memory.state.is_growing why)
+  pub unparsed : (why : TreeErr) → ParsesInOnePass bytes old new (Err why) → Lints bytes old new (unparsed_by new.memory.state.is_growing why)
   unparsed (tree.Syntax at) parsed = lints (Syntax at) parsed.0 tt (never (λ no. cc) (λ no. cc)) (λ no. absurd (cc)) (λ no. absurd (cc))
   unparsed (tree.TooDeep at) parsed = lints (TooDeep at) parsed.0 tt (never (λ no. cc) (λ no. cc)) (λ no. absurd (cc)) (λ no. absurd (cc))
   unparsed (tree.NumberTooBig at) parsed = lints (NumberTooBig at) parsed.0 tt (never (λ no. cc) (λ no. cc))
@@ -185,7 +185,7 @@ Walks old new t error = (trees : Stmts) → Means old.memory t trees
     → Spends (walk_asks (1 + 2 * weights trees)) (walk_bytes (weights trees)) 0 0 old new error
 
 -- A program that was walked over.
-module _ {bytes : List ℕ} {old mid new : View} (t : Tree) (light : AreLight) (unused : used old ≡ 0) (parsed : Parses bytes old mid (Ok t))
+module _ {bytes : List ℕ} {old mid new : View} (t : Tree) (light : AreLight) (unused : used old ≡ 0) (parsed : ParsesInOnePass bytes old mid (Ok t))
     (takes : TakesAtMost (parse_bytes (length bytes)) old mid) where
   all_spends : {error : Option AllocError} → Walks mid new t error
       → Spends (LintsAsk bytes) (lint_bytes (length bytes)) 0 0 old new error

@@ -72,7 +72,7 @@ pub fn lint_one<C: ChunkSource>(alloc: Global, a: &mut Allocator<C>, src: &[u8])
     ensures { Lints src.now a.old a.new result }
 {
     tree_weight();
-    let tree = match Tree::parse(a, src) {
+    let tree = match Tree::parse_in_one_pass(a, src) {
         Ok(tree) => tree,
         Err(why) => return unparsed(a, why),
     };

@@ -4,7 +4,7 @@ use Rattle.arena_lint.proofs.lint.lint_one.Goals as goal
 
 pub findings-requires : goal.findings-requires
 findings-requires g c =
-    parsed_light c.args.src.now c.args.a.now c.parse.new.a c.tree_weight.ensures c.requires.small
+    parsed_light c.args.src.now c.args.a.now c.parse_in_one_pass.new.a c.tree_weight.ensures c.requires.small
     c.in-Ok.ensures.parses c.in-Ok.ensures.tree
 
 pub returns-in-Err : goal.returns-in-Err
