@@ -26,6 +26,16 @@ fn refused_in<C: ChunkSource>(
     Tree::parse(a, src).err()
 }
 
+// Returns why it gets none in one pass.
+fn stopped_in<C: ChunkSource>(
+    rt: &impl Abort,
+    a: &mut Allocator<C>,
+    src: &[u8],
+) -> Option<TreeErr> {
+    assert!(rt; src.len() <= 1 << 24);
+    Tree::parse_in_one_pass(a, src).err()
+}
+
 // Returns the text of a program's tree in an arena.
 fn shown(rt: &impl Abort, alloc: Global, a: &mut Allocator<MemoryChunks>, src: &[u8]) -> Bytes {
     assert!(rt; src.len() <= 1 << 24);

@@ -1,5 +1,5 @@
 // Tests of texts, each of which is linted alone in an arena.
-use super::super::ample;
+use super::super::{ample, fixed};
 use super::super::reports::reported;
 use arena_chunks::{Allocator, MemoryChunks};
 use arena_lint::lint_one;
@@ -58,5 +58,27 @@ fn each_text_on_one_arena(rt: HostRuntime) {
     for (text, lines) in TEXTS {
         linted(&rt, rt.alloc(), &mut a, text, lines);
         a.reset();
+    }
+}
+
+// In an arena of any size: the text is refused at its end, after most of its tree has a place or the first block has
+// none.
+#[test]
+fn refused_at_its_end_in_any_arena(rt: HostRuntime) {
+    for bytes in 0..64 {
+        let mut a = fixed(&rt, rt.alloc(), bytes * 16);
+        let wanted = "source 0\nsyntax error at 17\n";
+        linted(&rt, rt.alloc(), &mut a, "let x = a*(b+1-c)", wanted);
+    }
+}
+
+// The tree has a place in 992 bytes (`trees::placed`), and its names in some more.
+#[test]
+fn full_below_992_bytes(rt: HostRuntime) {
+    let full = "source 0\nfull\n";
+    let found = "source 0\nundefined a\nundefined b\nundefined c\n";
+    for (bytes, wanted) in [(976, full), (4096, found)] {
+        let mut a = fixed(&rt, rt.alloc(), bytes);
+        linted(&rt, rt.alloc(), &mut a, "let x = a*(b+1-c);", wanted);
     }
 }

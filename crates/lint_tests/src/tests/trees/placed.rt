@@ -1,7 +1,7 @@
 // Tests of trees in arenas: their texts, the refusals of texts that are no programs, and the errors of arenas without
 // room.
 use super::super::{Parts, ample, fixed, refusing, same_at, text_of};
-use super::{SAMPLE, refused_in, shown};
+use super::{SAMPLE, refused_in, shown, stopped_in};
 use arena_chunks::Allocator;
 use arena_tree::TreeErr;
 
@@ -60,6 +60,8 @@ fn refused_texts(rt: HostRuntime) {
         let mut a = ample(rt.alloc());
         let found = refused_in(&rt, &mut a, src.as_slice());
         same_at(&rt, *parts, found, Some(*wanted));
+        let found = stopped_in(&rt, &mut a, src.as_slice());
+        same_at(&rt, *parts, found, Some(*wanted));
     }
 }
 
@@ -82,6 +84,8 @@ fn small_arenas(rt: HostRuntime) {
         let full = Some(TreeErr::AllocErr { refused: 0 });
         let wanted = if *enough { None } else { full };
         same_at(&rt, *bytes, refused_in(&rt, &mut a, src), wanted);
+        let mut a = fixed(&rt, rt.alloc(), *bytes);
+        same_at(&rt, *bytes, stopped_in(&rt, &mut a, src), wanted);
     }
 }
 
