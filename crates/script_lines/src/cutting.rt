@@ -22,6 +22,7 @@ pub fn cut_place(bytes: &[u8], from: usize) -> Option<usize>
 }
 
 // How many lines the bytes have.
+#[tactic(auto, using(crate::proofs::CutLemmas::lines_counted))]
 fn line_count(bytes: &[u8]) -> u64
     ensures { result ≡ length (lines_of bytes.now) }
 {
@@ -33,6 +34,7 @@ fn line_count(bytes: &[u8]) -> u64
 /// # Errors
 ///
 /// The first line of the whole text that is refused, or out of memory.
+#[tactic(auto, using(crate::proofs::CutLemmas::counted))]
 pub fn join_parts(
     bytes: &[u8],
     at: usize,

@@ -1,5 +1,5 @@
-use Rattle.std.proofs.Common.{Ok, Err, arith}
-use Rattle.script_lines.proofs.CutLemmas.{read_together, first_cause, counted}
+use Rattle.std.proofs.Common.{Ok, Err}
+use Rattle.script_lines.proofs.CutLemmas.{read_together, first_cause}
 use Rattle.script_lines.proofs.cutting.join_parts.Goals as goal
 
 pub returns-in-Err-clause-refused : goal.returns-in-Err-clause-refused
@@ -12,11 +12,6 @@ returns-in-Ok-append-clause-scripts c =
     read_together c.args.bytes.now c.args.at c.requires.cut (Ok c.in-Ok.scripts.items) (Ok c.in-Ok-rest.more.items)
     (rw c.in-Ok.is at c.requires.first) (rw c.in-Ok-rest.is at c.requires.rest)
     )
-
-pub overflow_add-result : goal.overflow_add-result
-overflow_add-result c =
-    let refused = rw c.in-BadLine.is at (rw c.in-Err-rest.is at c.requires.rest) in
-    omega (arith, counted c.args.bytes.now c.args.at c.requires.cut c.in-BadLine.n refused, c.line_count.ensures)
 
 pub returns-in-BadLine-clause-refused : goal.returns-in-BadLine-clause-refused
 returns-in-BadLine-clause-refused c =
