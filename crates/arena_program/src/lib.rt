@@ -5,6 +5,7 @@ mod arguments;
 mod budget;
 pub mod laws;
 mod lint;
+mod parsing;
 mod pools;
 mod program;
 mod run;

@@ -4,13 +4,14 @@ ghost use Rattle.arena_calls.specs.Ends.{outside};
 ghost use Rattle.arena_program.specs.Words.{IsWithin, IsLender};
 ghost use Rattle.arena_program.specs.PoolEnds.{ScriptEnds};
 
+use crate::parsing::parse_on_workers;
 use crate::pools::run_task;
 use crate::tasks::Task;
 use crate::told::report;
 use arena_calls::{Input, Output, ReadErr, Status, print, read_all};
 use arena_pool::ChunkMaker;
 use arena_script::Job;
-use script_lines::{LinesErr, laws, parse_scripts};
+use script_lines::{LinesErr, laws};
 use script_workers::Starved;
 use std::alloc::Global;
 use std::sync::Wait;
@@ -47,7 +48,7 @@ pub fn run_lines_of_scripts<
         Err(ReadErr::TooLong) => return Status::InputTooLong,
         Err(ReadErr::OutOfMemory) => return Status::OutOfMemory,
     };
-    let scripts = match parse_scripts(alloc, bytes.as_slice()) {
+    let scripts = match parse_on_workers(rt, alloc, task.workers, bytes.as_slice()) {
         Ok(scripts) => scripts,
         Err(LinesErr::BadLine(n)) => return Status::BadLine(n),
         Err(LinesErr::OutOfMemory) => return Status::OutOfMemory,

@@ -1,5 +1,6 @@
 // Helpers for the tests of the program. Arguments are called words.
 mod calls;
+mod long;
 mod programs;
 mod rows;
 mod watched;

@@ -11,7 +11,7 @@ onto_few : (b : ℕ) (lines : List (List ℕ)) (k : ℕ) → length lines ≤ k 
 onto_few b [] k few some = some
 onto_few b (line ∷ lines) k few some = few
 
-lines_few : (bytes : List ℕ) → length (lines_of bytes) ≤ length bytes + 1
+pub lines_few : (bytes : List ℕ) → length (lines_of bytes) ≤ length bytes + 1
 lines_few [] = omega arith
 lines_few (b ∷ bytes) = step (b == 10) refl (lines_few bytes)
   where

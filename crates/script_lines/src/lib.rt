@@ -4,12 +4,14 @@
 #![tactic(auto)]
 
 mod commands;
+mod cutting;
 pub mod laws;
 mod outcomes;
 mod parse;
 mod replies;
 
 pub use commands::read_command;
+pub use cutting::{cut_place, join_parts};
 pub use line_parts::LinesErr;
 pub use outcomes::{put_outcome, put_outcomes};
 pub use parse::parse_scripts;

@@ -1,4 +1,5 @@
 // Tests of scripts on the plain machine and on the engine.
+mod cutting;
 mod engine;
 mod lines;
 mod tables;

@@ -9,8 +9,8 @@ use Rattle.arena_program.proofs.run.run_lines_of_scripts.Goals as goal
 
 pub report-requires : goal.report-requires
 report-requires g c =
-    let few = c.few.ensures c.in-Ok.bytes.items c.in-Ok-parse_scripts.scripts.items
-    (rw c.as_slice.ensures.value at c.in-Ok-parse_scripts.ensures.scripts) in
+    let few = c.few.ensures c.in-Ok.bytes.items c.in-Ok-parse_on_workers.scripts.items
+    (rw c.as_slice.ensures.value at c.in-Ok-parse_on_workers.ensures.scripts) in
     omega (arith, few, c.in-Ok.ensures.kept, AllZip-long _ _ _ (rw c.as_slice-2.ensures.value at c.in-Ok-run_task.ensures))
 
 pub returns-in_default-report : goal.returns-in_default-report
@@ -24,8 +24,8 @@ returns-in_default-report g c = λ arena. (
 
 pub returns : goal.returns
 returns g c = λ arena. pieces_printed ScriptsOf (IsServedAlone _ (kind_of c.args.task.lender) _) (λ served. served.starved) text_of_served
-    _ _ _ _ c.print.result _ c.in-Ok.bytes.items c.in-Ok-parse_scripts.scripts.items c.in-Ok-run_task.all.items c.in-Ok.ensures.all
-    (omega (arith, c.in-Ok.ensures.kept)) (rw c.as_slice.ensures.value at c.in-Ok-parse_scripts.ensures.scripts)
+    _ _ _ _ c.print.result _ c.in-Ok.bytes.items c.in-Ok-parse_on_workers.scripts.items c.in-Ok-run_task.all.items c.in-Ok.ensures.all
+    (omega (arith, c.in-Ok.ensures.kept)) (rw c.as_slice.ensures.value at c.in-Ok-parse_on_workers.ensures.scripts)
     (record {
       alone = rw c.as_slice-2.ensures.value at c.in-Ok-run_task.ensures;
       gained = c.in-Ok-report.ensures.gained;
