@@ -6,9 +6,11 @@ mod budget;
 pub mod laws;
 mod lint;
 mod pools;
+mod printout;
 mod program;
 mod run;
 mod tasks;
+mod telling;
 mod told;
 mod whole;
 
