@@ -25,8 +25,8 @@ module _ {S : Type 0} (i : ℕ) (served : S) (all rest : List S) (first : all �
       ∙ ap (λ xs. old ++ text_from text i xs) (sym first) ∙ before
 
   -- what shows that it was starved was appended
-  pub starved_step : {C : Type 0} (starved : S → Option (Starved C)) (whole old new : List (ℕ × Starved C)) → old ++ starved_of starved i all ≡ whole
-      → new ≡ old ++ shown i (starved served) → new ++ starved_of starved (i + 1) rest ≡ whole
+  pub starved_step : {C : Type 0} (starved : S → Option (Starved C)) (whole old new : List (ℕ × Starved C))
+      → old ++ starved_of starved i all ≡ whole → new ≡ old ++ shown i (starved served) → new ++ starved_of starved (i + 1) rest ≡ whole
   starved_step starved whole old new before put =
       ap (λ xs. xs ++ starved_of starved (i + 1) rest) put
       ∙ append_assoc old (shown i (starved served)) (starved_of starved (i + 1) rest)
@@ -54,7 +54,8 @@ pub one_more : (old mid new : Option (List ℕ)) (texts : List (Vec ℕ Global))
     → text ≡ get_or texts i text → Writes old mid (joined (take i texts)) → Writes mid new text.items
     → Writes old new (joined (take (i + 1) texts))
 one_more old mid new texts i text within is before wrote =
-    subst (Writes old new) (sym (joined_more texts i text within is)) (writes_both old mid new (joined (take i texts)) text.items before wrote)
+    subst (Writes old new) (sym (joined_more texts i text within is))
+    (writes_both old mid new (joined (take i texts)) text.items before wrote)
 
 -- a part of it was written
 pub part_of_all : (old mid new : Option (List ℕ)) (texts : List (Vec ℕ Global)) (i : ℕ) (text : Vec ℕ Global) → i < length texts

@@ -8,28 +8,15 @@ use Rattle.arena_pool.specs.declared.kind.PoolKind.{PoolKind}
 use Rattle.arena_workers.specs.Working.{Terms, IsServed}
 use Rattle.arena_workers.specs.declared.served.Served.{Served}
 use Rattle.arena_program.specs.PoolEnds.{shown, starved_of}
-use Rattle.arena_program.specs.Told.{outcome_text, text_from, joined, IsPrintout, IsLeft, told_text, told_refused, told_terms}
+use Rattle.arena_program.specs.Told.{outcome_text, text_from, joined, IsPrintout, told_text, told_refused, told_terms}
 use Rattle.arena_program.specs.declared.printout.Printout.{Printout}
 use Rattle.arena_program.specs.declared.told.Told.{Told}
-use Rattle.arena_program.specs.declared.told.Told.TheVariants.{Text, Untold}
-
--- ---- What workers leave
 
 module _ {P O : Type 0} (text : ℕ → O → List ℕ) (terms : Terms P O) where
-  left_refused : (i : ℕ) (outcome : O) (left : Told O) → IsLeft text terms.is_refused i outcome left
-      → told_refused terms.is_refused left ≡ terms.is_refused outcome
-  left_refused i outcome (Text bytes refused) is = is.1
-  left_refused i outcome (Untold same) is = ap terms.is_refused is
-
-  left_text : (i : ℕ) (outcome : O) (left : Told O) → IsLeft text terms.is_refused i outcome left
-      → told_text text i left ≡ text i outcome
-  left_text i outcome (Text bytes refused) is = is.0
-  left_text i outcome (Untold same) is = ap (text i) is
-
   pub accepted : (i : ℕ) (pieces : List P) → All terms.accepts pieces → All (told_terms text terms).accepts (enumerate_from i pieces)
   accepted i [] are = All-nil (told_terms text terms).accepts
-  accepted i (piece ∷ pieces) are = All-cons (told_terms text terms).accepts (i, piece) (enumerate_from (i + 1) pieces) (All-head terms.accepts piece pieces are)
-      (accepted (i + 1) pieces (All-tail terms.accepts piece pieces are))
+  accepted i (piece ∷ pieces) are = All-cons (told_terms text terms).accepts (i, piece) (enumerate_from (i + 1) pieces)
+      (All-head terms.accepts piece pieces are) (accepted (i + 1) pieces (All-tail terms.accepts piece pieces are))
 
   module _ {C : Type 0} (source : C → Source) (kind : PoolKind) where
     -- the result of one piece, of which this is left
@@ -37,8 +24,7 @@ module _ {P O : Type 0} (text : ℕ → O → List ℕ) (terms : Terms P O) wher
         → (served : Served O C) × IsServed source kind terms piece served × (told_text text i left.outcome ≡ text i served.outcome)
         × (left.starved ≡ served.starved)
     one_of i piece left (inl done) =
-        let is = done.done.2 in
-        let same = left_refused i done.done.0 left.outcome is in (
+        let is = done.done.2 in (
           record { outcome = done.done.0; starved = left.starved },
           inl (record {
             old = done.old;
@@ -47,10 +33,10 @@ module _ {P O : Type 0} (text : ℕ → O → List ℕ) (terms : Terms P O) wher
             low = done.low;
             done = done.done.1;
             of_kind = done.of_kind;
-            refused = λ refused. done.refused (same ∙ refused);
-            other = λ other. done.other (same ∙ other);
+            refused = λ refused. done.refused (is.same_refused ∙ refused);
+            other = λ other. done.other (is.same_refused ∙ other);
           }),
-          left_text i done.done.0 left.outcome is,
+          is.same_text,
           refl,
         )
     one_of i piece left (inr none) = let same = none.unserved.2 in (
@@ -81,7 +67,7 @@ module _ {P O : Type 0} (text : ℕ → O → List ℕ) (terms : Terms P O) wher
           ap (λ x. shown i x ++ starved_of (λ s. s.starved) (i + 1) left) one.3 ∙ ap (λ xs. shown i one.0.starved ++ xs) rest.3,
         )
 
-    -- what was put together of what workers left is printed_of of the results
+    -- what is put together of what workers left is a printout of the results
     pub printed_of : {E : Type 0} (pieces : List P) (left : List (Served (Told O) C)) (r : Result (Printout C) E)
         → AllZip (IsServed source kind (told_terms text terms)) (enumerate_from 0 pieces) left
         → IfOk r (λ printout. joined printout.texts.items ≡ text_from (outcome_text (told_text text)) 0 left)

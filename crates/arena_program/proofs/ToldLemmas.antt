@@ -46,16 +46,16 @@ reports_whole all = reports_from 0 all
 -- ---- What is promised of scripts and of sources
 
 module _ {C : Type 0} (source : C → Source) (kind : PoolKind) where
-  pub scripts_printed : {E : Type 0} (worked : List Command → Outcome → Type 0) (scripts : List (List Command)) (r : Result (Printout C) E)
+  pub each_script : {E : Type 0} (worked : List Command → Outcome → Type 0) (scripts : List (List Command)) (r : Result (Printout C) E)
       → IfOk r (IsPrintout (IsServed source kind (script_terms worked)) (outcome_text script_text) (λ s. s.starved) scripts)
       → IfOk r (IsPrintout (IsServedAlone source kind worked) (outcome_text script_text) (λ s. s.starved) scripts)
-  scripts_printed worked scripts (Ok printout) is = record {
+  each_script worked scripts (Ok printout) is = record {
     all = is.all;
     alone = scripts_alone source kind worked scripts is.all is.alone;
     texts = is.texts;
     gained = is.gained;
   }
-  scripts_printed worked scripts (Err e) is = tt
+  each_script worked scripts (Err e) is = tt
 
   linted_texts : (i : ℕ) (all : List (Served FileReport C))
       → text_from (outcome_text reports.report_text) i all ≡ text_from linted_text i (map linted all)
@@ -67,13 +67,13 @@ module _ {C : Type 0} (source : C → Source) (kind : PoolKind) where
   linted_starved i [] = refl
   linted_starved i (served ∷ all) = ap (λ xs. shown i served.starved ++ xs) (linted_starved (i + 1) all)
 
-  pub sources_printed : {E : Type 0} (sources : List (List ℕ)) (r : Result (Printout C) E)
+  pub each_source : {E : Type 0} (sources : List (List ℕ)) (r : Result (Printout C) E)
       → IfOk r (IsPrintout (IsServed source kind lint_terms) (outcome_text reports.report_text) (λ s. s.starved) sources)
       → IfOk r (IsPrintout (IsLintedAlone source kind) linted_text (λ l. l.starved) sources)
-  sources_printed sources (Ok printout) is = record {
+  each_source sources (Ok printout) is = record {
     all = map linted is.all;
     alone = linted_alone source kind sources is.all is.alone;
     texts = is.texts ∙ linted_texts 0 is.all;
     gained = is.gained ∙ linted_starved 0 is.all;
   }
-  sources_printed sources (Err e) is = tt
+  each_source sources (Err e) is = tt

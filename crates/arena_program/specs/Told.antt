@@ -47,11 +47,7 @@ pub record IsPrintout {P S C : Type 0} (promise : P → S → Type 0) (text : �
 
 -- ---- What workers leave
 
--- what is left of the outcome of the piece of this number: its text, and whether it says that an arena refused; or all
-abbrev pub IsLeft : {O : Type 0} → (ℕ → O → List ℕ) → (O → Bool) → ℕ → O → Told O → Type 0
-IsLeft text is_refused i outcome (Text bytes refused) = (bytes.items ≡ text i outcome) × (refused ≡ is_refused outcome)
-IsLeft text is_refused i outcome (Untold same) = same ≡ outcome
-
+-- the text of the outcome of the piece of this number, by what is left of it; and whether it says that an arena refused
 abbrev pub told_text : {O : Type 0} → (ℕ → O → List ℕ) → ℕ → Told O → List ℕ
 told_text text i (Text bytes refused) = bytes.items
 told_text text i (Untold outcome) = text i outcome
@@ -59,6 +55,11 @@ told_text text i (Untold outcome) = text i outcome
 abbrev pub told_refused : {O : Type 0} → (O → Bool) → Told O → Bool
 told_refused is_refused (Text bytes refused) = refused
 told_refused is_refused (Untold outcome) = is_refused outcome
+
+-- this is left of the outcome of the piece of this number
+pub record IsLeft {O : Type 0} (text : ℕ → O → List ℕ) (is_refused : O → Bool) (i : ℕ) (outcome : O) (told : Told O) : Type 0 where
+  pub same_text : told_text text i told ≡ text i outcome
+  pub same_refused : told_refused is_refused told ≡ is_refused outcome
 
 -- work on numbered pieces, where this is left of an outcome of the work on the pieces
 abbrev pub told_terms : {P O : Type 0} → (ℕ → O → List ℕ) → Terms P O → Terms (ℕ × P) (Told O)

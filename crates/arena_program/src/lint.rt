@@ -43,7 +43,7 @@ fn lint_over_pool<R: Threads + Wait + Sync, K: ChunkMaker + Drop + Send>(
 }
 
 // `L` names the pool; it occurs in no type of the signature.
-#[tactic(auto, using(crate::proofs::ToldLemmas::sources_printed))]
+#[tactic(auto, using(crate::proofs::ToldLemmas::each_source))]
 fn lint_in_standard<
     L: PoolName + Send + Sync,
     R: Threads + Wait + Sync,

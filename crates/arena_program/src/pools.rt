@@ -66,7 +66,7 @@ pub fn run_task<R: Threads + Wait + Sync, K: ChunkMaker + Drop + Send, J: Job<K:
 }
 
 // `L` names the pool; it occurs in no type of the signature.
-#[tactic(auto, using(crate::proofs::TaskLemmas::has_regions, crate::proofs::TaskLemmas::has_limit, crate::proofs::ToldLemmas::scripts_printed))]
+#[tactic(auto, using(crate::proofs::TaskLemmas::has_regions, crate::proofs::TaskLemmas::has_limit, crate::proofs::ToldLemmas::each_script))]
 fn in_pool<
     L: PoolName + Send + Sync,
     R: Threads + Wait + Sync,

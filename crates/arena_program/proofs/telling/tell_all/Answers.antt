@@ -6,21 +6,18 @@ use Rattle.arena_program.proofs.telling.tell_all.Goals as goal
 
 pub run_all-requires-clause-few : goal.run_all-requires-clause-few
 run_all-requires-clause-few g c κs within =
-    omega (arith, ap length (c.as_slice.ensures.value ∙ c.in_ok-pieces.ensures), length-enumerate_from 0 c.args.pieces.items, c.requires.few)
+    let same = ap length (c.as_slice.ensures.value ∙ c.in_ok-pieces.ensures) in
+    omega (arith, same, length-enumerate_from 0 c.args.pieces.items, c.requires.few)
 
 pub run_all-requires-clause-accepted : goal.run_all-requires-clause-accepted
 run_all-requires-clause-accepted g c κs within =
-    rw (c.as_slice.ensures.value, c.in_ok-pieces.ensures) (accepted g.W.Outcome.Tells.text g.W.Work.terms 0 c.args.pieces.items c.requires.accepted)
+    rw (c.as_slice.ensures.value, c.in_ok-pieces.ensures)
+    (accepted g.W.Outcome.Tells.text g.W.Work.terms 0 c.args.pieces.items c.requires.accepted)
 
 pub join-requires : goal.join-requires
 join-requires g c =
-    omega (
-      arith,
-      AllZip-long _ _ _ c.in_ok-all.ensures,
-      ap length (c.as_slice.ensures.value ∙ c.in_ok-pieces.ensures),
-      length-enumerate_from 0 c.args.pieces.items,
-      c.requires.few,
-    )
+    let same = ap length (c.as_slice.ensures.value ∙ c.in_ok-pieces.ensures) in
+    omega (arith, AllZip-long _ _ _ c.in_ok-all.ensures, same, length-enumerate_from 0 c.args.pieces.items, c.requires.few)
 
 pub returns : goal.returns
 returns g c = printed_of g.W.Outcome.Tells.text g.W.Work.terms g.K.Chunks.ChunkSource.source g.L.PoolName.kind c.args.pieces.items
