@@ -12,5 +12,5 @@ pub use all::lint_all;
 pub use arena_workers::{Gate, NoGate, Starved};
 pub use lint::lint_one;
 pub use lint_reports::{FileReport, FindKind, Finding, Findings, Source};
-pub use parts::{LintErr, Linted, lint_parts};
+pub use parts::{LintErr, Linted, Linting, lint_parts};
 pub use two::lint_two;

@@ -35,10 +35,18 @@ impl From<OutOfMemory> for LintErr {
     }
 }
 
-// The work of linting sources. The slice is empty, and is there for their lifetime alone.
+/// The work of linting sources, for callers of `run_all` that wrap it; `lint_parts` does this work.
 #[derive(Drop)]
-struct Linting<'a> {
+pub struct Linting<'a> {
+    // Is empty, and is there for the lifetime of the sources alone.
     of: &'a [u8],
+}
+
+impl<'a> Linting<'a> {
+    /// Returns this work.
+    pub fn new() -> Linting<'a> {
+        Linting { of: &[] }
+    }
 }
 
 impl<'a, C: ChunkSource> Work<C> for Linting<'a> {
@@ -106,7 +114,6 @@ pub fn lint_parts<
     requires short { All (λ bytes. length bytes ≤ 2 ^ 24) sources.now }
     ensures { IfOk result (λ all. AllZip (IsLintedAlone K.Chunks.source L.kind) sources.now all.items) }
 {
-    let work = Linting { of: &[] };
-    let all = run_all(rt, alloc, pool, workers, gate, &work, sources)?;
+    let all = run_all(rt, alloc, pool, workers, gate, &Linting::new(), sources)?;
     Ok(with_names(alloc, all)?)
 }

@@ -1,27 +1,37 @@
--- The texts of the results of pieces of work, one after another.
-use Rattle.std.proofs.Common.{◌≡◌, ℕ, ◌+◌, List, [], ◌∷◌, ◌++◌, Option, map, refl, sym, ap, ◌∙◌, append_assoc}
+-- The texts of the outcomes of scripts and of the reports of sources, and what is promised of these.
+use Rattle.std.proofs.Common.{◌≡◌, ℕ, ◌+◌, List, [], ◌∷◌, ◌++◌, map, refl, sym, ap, ◌∙◌}
+use Rattle.std.specs.Prelude.{Result, Ok, Err, IfOk}
 use Rattle.std.specs.List.{flat_map}
 use Rattle.std.proofs.lemmas.Grind.{flat_map-append}
 use Rattle.call_rules.specs.Grammar.{with_feed}
 use Rattle.script_rules.specs.Outcomes.{told, outcome_lines, lines_from}
-use Rattle.arena_workers.specs.declared.served.Starved.{Starved}
-use Rattle.lint_reports.specs.Reports as reports
-use Rattle.lint_reports.proofs.ReportLemmas.{reports_more}
 use Rattle.script_rules.specs.declared.outcome.Outcome.{Outcome}
+use Rattle.arena_chunks.specs.Source.{Source}
+use Rattle.arena_pool.specs.declared.kind.PoolKind.{PoolKind}
+use Rattle.arena_workers.specs.Working.{IsServed}
 use Rattle.arena_workers.specs.declared.served.Served.{Served}
+use Rattle.lint_reports.specs.Reports as reports
+use Rattle.lint_reports.specs.declared.report.FileReport.{FileReport}
+use Rattle.lint_reports.proofs.ReportLemmas.{reports_more}
+use Rattle.arena_lint.specs.All.{IsLintedAlone, lint_terms, linted}
 use Rattle.arena_lint.specs.declared.parts.Linted.{Linted}
+use Rattle.arena_lint.proofs.AllLemmas.{all_alone as linted_alone}
+use Rattle.script_workers.specs.Serving.{IsServedAlone, script_terms}
+use Rattle.script_workers.proofs.AloneLemmas.{all_alone as scripts_alone}
+use Rattle.script_rules.specs.declared.commands.Command.{Command}
 use Rattle.arena_program.specs.PoolEnds.{shown, starved_of, text_of_served, text_of_linted}
-use Rattle.arena_program.specs.Told.{served_text, linted_text, text_from}
+use Rattle.arena_program.specs.Told.{script_text, linted_text, outcome_text, text_from, IsPrintout}
+use Rattle.arena_program.specs.declared.printout.Printout.{Printout}
 
 -- ---- The texts of all
 
-scripts_from : {C : Type 0} (i : ℕ) (all : List (Served Outcome C))
-    → text_from served_text i all ≡ flat_map with_feed (lines_from i (map told (map (λ served. served.outcome) all)))
+scripts_from : {C : Type 0} (i : ℕ) (all : List (Served Outcome C)) → text_from (outcome_text script_text) i all
+    ≡ flat_map with_feed (lines_from i (map told (map (λ served. served.outcome) all)))
 scripts_from i [] = refl
-scripts_from i (served ∷ all) = ap (λ xs. served_text i served ++ xs) (scripts_from (i + 1) all)
+scripts_from i (served ∷ all) = ap (λ xs. script_text i served.outcome ++ xs) (scripts_from (i + 1) all)
     ∙ sym (flat_map-append with_feed (outcome_lines i (told served.outcome)) (lines_from (i + 1) (map told (map (λ s. s.outcome) all))))
 
-pub scripts_whole : {C : Type 0} (all : List (Served Outcome C)) → text_from served_text 0 all ≡ text_of_served all
+pub scripts_whole : {C : Type 0} (all : List (Served Outcome C)) → text_from (outcome_text script_text) 0 all ≡ text_of_served all
 scripts_whole all = scripts_from 0 all
 
 reports_from : {C : Type 0} (i : ℕ) (all : List (Linted C))
@@ -33,20 +43,37 @@ reports_from i (linted ∷ all) = ap (λ xs. linted_text i linted ++ xs) (report
 pub reports_whole : {C : Type 0} (all : List (Linted C)) → text_from linted_text 0 all ≡ text_of_linted all
 reports_whole all = reports_from 0 all
 
--- ---- One after another
+-- ---- What is promised of scripts and of sources
 
-module _ {S : Type 0} (i : ℕ) (served : S) (all rest : List S) (first : all ≡ served ∷ rest) where
-  -- the text of the next one was appended
-  pub text_step : (text : ℕ → S → List ℕ) (whole old new : List ℕ) → old ++ text_from text i all ≡ whole
-      → new ≡ old ++ text i served → new ++ text_from text (i + 1) rest ≡ whole
-  text_step text whole old new before put =
-      ap (λ xs. xs ++ text_from text (i + 1) rest) put ∙ append_assoc old (text i served) (text_from text (i + 1) rest)
-      ∙ ap (λ xs. old ++ text_from text i xs) (sym first) ∙ before
+module _ {C : Type 0} (source : C → Source) (kind : PoolKind) where
+  pub each_script : {E : Type 0} (worked : List Command → Outcome → Type 0) (scripts : List (List Command)) (r : Result (Printout C) E)
+      → IfOk r (IsPrintout (IsServed source kind (script_terms worked)) (outcome_text script_text) (λ s. s.starved) scripts)
+      → IfOk r (IsPrintout (IsServedAlone source kind worked) (outcome_text script_text) (λ s. s.starved) scripts)
+  each_script worked scripts (Ok printout) is = record {
+    all = is.all;
+    alone = scripts_alone source kind worked scripts is.all is.alone;
+    texts = is.texts;
+    gained = is.gained;
+  }
+  each_script worked scripts (Err e) is = tt
 
-  -- what shows that it was starved was appended
-  pub starved_step : {C : Type 0} (starved : S → Option (Starved C)) (whole old new : List (ℕ × Starved C)) → old ++ starved_of starved i all ≡ whole
-      → new ≡ old ++ shown i (starved served) → new ++ starved_of starved (i + 1) rest ≡ whole
-  starved_step starved whole old new before put =
-      ap (λ xs. xs ++ starved_of starved (i + 1) rest) put
-      ∙ append_assoc old (shown i (starved served)) (starved_of starved (i + 1) rest)
-      ∙ ap (λ xs. old ++ starved_of starved i xs) (sym first) ∙ before
+  linted_texts : (i : ℕ) (all : List (Served FileReport C))
+      → text_from (outcome_text reports.report_text) i all ≡ text_from linted_text i (map linted all)
+  linted_texts i [] = refl
+  linted_texts i (served ∷ all) = ap (λ xs. reports.report_text i served.outcome ++ xs) (linted_texts (i + 1) all)
+
+  linted_starved : (i : ℕ) (all : List (Served FileReport C))
+      → starved_of (λ s. s.starved) i all ≡ starved_of (λ l. l.starved) i (map linted all)
+  linted_starved i [] = refl
+  linted_starved i (served ∷ all) = ap (λ xs. shown i served.starved ++ xs) (linted_starved (i + 1) all)
+
+  pub each_source : {E : Type 0} (sources : List (List ℕ)) (r : Result (Printout C) E)
+      → IfOk r (IsPrintout (IsServed source kind lint_terms) (outcome_text reports.report_text) (λ s. s.starved) sources)
+      → IfOk r (IsPrintout (IsLintedAlone source kind) linted_text (λ l. l.starved) sources)
+  each_source sources (Ok printout) is = record {
+    all = map linted is.all;
+    alone = linted_alone source kind sources is.all is.alone;
+    texts = is.texts ∙ linted_texts 0 is.all;
+    gained = is.gained ∙ linted_starved 0 is.all;
+  }
+  each_source sources (Err e) is = tt

@@ -7,9 +7,11 @@ pub mod laws;
 mod lint;
 mod parsing;
 mod pools;
+mod printout;
 mod program;
 mod run;
 mod tasks;
+mod telling;
 mod told;
 mod whole;
 

@@ -1,6 +1,5 @@
 // Lints the sources of the input.
 ghost use Rattle.std.specs.Prelude.{◌≡◌, ◌<◌, ◌≤◌, ◌^◌, All, None, length, IfOk};
-ghost use Rattle.std.specs.List.{AllZip};
 ghost use Rattle.arena_chunks.specs.Source.{View};
 ghost use Rattle.arena_pool.specs.Names.{IsBlankOf};
 ghost use Rattle.arena_pool.specs.declared.kind.PoolKind.TheVariants.{Standard};
@@ -9,13 +8,15 @@ ghost use Rattle.arena_lint.specs.All.{IsLintedAlone};
 ghost use Rattle.arena_calls.specs.Ends.{outside};
 ghost use Rattle.arena_program.specs.Words.{IsWithin};
 ghost use Rattle.arena_program.specs.PoolEnds.{LintEnds};
+ghost use Rattle.arena_program.specs.Told.{IsPrintout, linted_text};
 
-use crate::told::report;
-use arena_calls::{Input, Output, ReadErr, Status, print, read_all};
+use crate::printout::{Printout, print_all};
+use crate::telling::tell_all;
+use arena_calls::{Input, Output, ReadErr, Status, read_all};
 use arena_chunks::OutOfMemory;
-use arena_lint::{LintErr, Linted, lint_parts};
+use arena_lint::Linting;
 use arena_pool::{AllocatorPool, ChunkMaker, MOST_LENT, PoolName};
-use arena_workers::{NoGate, Starved};
+use arena_workers::Starved;
 use lint_reports::{Source, laws, sources_of};
 use std::alloc::Global;
 use std::marker::Brand;
@@ -23,24 +24,26 @@ use std::sync::Wait;
 use std::sync::ledger::Blank;
 use std::thread::Threads;
 
-// Lints sources on at most `workers` threads, over a new standard pool. The results are in order.
+// Lints sources on at most `workers` threads, over a new standard pool. Returns the texts of their reports, in order,
+// which the workers make.
 fn lint_over_pool<R: Threads + Wait + Sync, K: ChunkMaker + Drop + Send>(
     rt: &R,
     alloc: Global,
     workers: u32,
     maker: K,
-    sources: &[Source<'_>],
-) -> Result<Vec<Linted<K::Chunks>>, LintErr>
+    sources: Vec<Source<'_>>,
+) -> Result<Printout<K::Chunks>, OutOfMemory>
     requires workers { IsWithin 1 64 workers }
-    requires few { length sources.now < 2 ^ 32 }
-    requires short { All (λ bytes. length bytes ≤ 2 ^ 24) sources.now }
-    ensures { IfOk result (λ all. AllZip (IsLintedAlone K.Chunks.source Standard) sources.now all.items) }
+    requires few { length sources.items < 2 ^ 32 }
+    requires short { All (λ bytes. length bytes ≤ 2 ^ 24) sources.items }
+    ensures { IfOk result (IsPrintout (IsLintedAlone K.Chunks.source Standard) linted_text (λ linted. linted.starved) sources.entry.items) }
 {
     let blank = Blank::new(MOST_LENT);
     lint_in_standard::<Brand, R, K>(rt, alloc, workers, maker, blank, sources)
 }
 
 // `L` names the pool; it occurs in no type of the signature.
+#[tactic(auto, using(crate::proofs::ToldLemmas::each_source))]
 fn lint_in_standard<
     L: PoolName + Send + Sync,
     R: Threads + Wait + Sync,
@@ -51,18 +54,18 @@ fn lint_in_standard<
     workers: u32,
     maker: K,
     blank: Blank,
-    sources: &[Source<'_>],
-) -> Result<Vec<Linted<K::Chunks>>, LintErr>
+    sources: Vec<Source<'_>>,
+) -> Result<Printout<K::Chunks>, OutOfMemory>
     requires blank { IsBlankOf L.name L.parts blank }
     requires kind { L.kind ≡ Standard }
     requires limit { L.limit ≡ None }
     requires workers { IsWithin 1 64 workers }
-    requires few { length sources.now < 2 ^ 32 }
-    requires short { All (λ bytes. length bytes ≤ 2 ^ 24) sources.now }
-    ensures { IfOk result (λ all. AllZip (IsLintedAlone K.Chunks.source Standard) sources.now all.items) }
+    requires few { length sources.items < 2 ^ 32 }
+    requires short { All (λ bytes. length bytes ≤ 2 ^ 24) sources.items }
+    ensures { IfOk result (IsPrintout (IsLintedAlone K.Chunks.source Standard) linted_text (λ linted. linted.starved) sources.entry.items) }
 {
     let pool = AllocatorPool::<K, L>::new(alloc, workers, maker, blank)?;
-    lint_parts(rt, alloc, &pool, workers, &NoGate, sources)
+    tell_all(rt, alloc, &pool, workers, &Linting::new(), sources)
 }
 
 // The sources of an input: few enough, and none too long, to be linted.
@@ -102,14 +105,11 @@ pub fn run_sources<I: Input, O: Output, R: Threads + Wait + Sync, K: ChunkMaker 
     let Ok(sources) = sources_in(alloc, bytes.as_slice()) else {
         return Status::OutOfMemory;
     };
-    let Ok(all) = lint_over_pool(rt, alloc, workers, maker, sources.as_slice()) else {
+    let Ok(printout) = lint_over_pool(rt, alloc, workers, maker, sources) else {
         return Status::OutOfMemory;
     };
-    // The input is freed before the text is made, which may need much memory.
-    drop(sources);
-    drop(bytes);
-    let Ok(text) = report(alloc, all, starved) else {
+    let Ok(texts) = printout.into_texts(starved) else {
         return Status::OutOfMemory;
     };
-    print(output, text.as_slice())
+    print_all(output, texts.as_slice())
 }

@@ -6,9 +6,9 @@ ghost use Rattle.arena_program.specs.PoolEnds.{ScriptEnds};
 
 use crate::parsing::parse_on_workers;
 use crate::pools::run_task;
+use crate::printout::print_all;
 use crate::tasks::Task;
-use crate::told::report;
-use arena_calls::{Input, Output, ReadErr, Status, print, read_all};
+use arena_calls::{Input, Output, ReadErr, Status, read_all};
 use arena_pool::ChunkMaker;
 use arena_script::Job;
 use script_lines::{LinesErr, laws};
@@ -55,13 +55,11 @@ pub fn run_lines_of_scripts<
     };
     drop(bytes);
     laws::few();
-    let Ok(all) = run_task(rt, alloc, task, maker, job, scripts.as_slice()) else {
+    let Ok(printout) = run_task(rt, alloc, task, maker, job, scripts) else {
         return Status::OutOfMemory;
     };
-    // The scripts are freed before the text is made, which needs much memory.
-    drop(scripts);
-    let Ok(text) = report(alloc, all, starved) else {
+    let Ok(texts) = printout.into_texts(starved) else {
         return Status::OutOfMemory;
     };
-    print(output, text.as_slice())
+    print_all(output, texts.as_slice())
 }

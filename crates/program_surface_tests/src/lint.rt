@@ -1,7 +1,9 @@
 // Public items of the linter.
 use crate::kinds::is_error;
 use arena_chunks::{Allocator, Bytes, ChunkSource};
-use arena_lint::{FileReport, FindKind, Finding, Findings, LintErr, Linted, lint_all, lint_one};
+use arena_lint::{
+    FileReport, FindKind, Finding, Findings, LintErr, Linted, Linting, lint_all, lint_one,
+};
 use arena_pool::{AllocatorPool, ChunkMaker, PoolName};
 use script_workers::{Gate, Starved};
 use std::alloc::Global;
@@ -45,6 +47,10 @@ fn linted<C: ChunkSource>(report: FileReport, starved: Option<Starved<C>>) -> Li
 fn one<C: ChunkSource>(alloc: Global, a: &mut Allocator<C>, src: &[u8]) {
     return;
     let _: FileReport = lint_one(alloc, a, src);
+}
+
+fn work<'a>() -> Linting<'a> {
+    Linting::new()
 }
 
 fn refused(e: LintErr) {

@@ -4,7 +4,7 @@ use arena_chunks::{Allocator, ChunkSource};
 use arena_pool::{AllocatorPool, ChunkMaker, PoolName};
 use arena_script::Job;
 use script_rules::{Outcome, Script};
-use script_workers::{Gate, NoGate, ScriptsErr, Served, Starved, run_scripts};
+use script_workers::{Gate, NoGate, Scripts, ScriptsErr, Served, Starved, run_scripts};
 use std::alloc::Global;
 use std::sync::Wait;
 use std::thread::Threads;
@@ -38,6 +38,10 @@ fn starved<C: ChunkSource>(starved: Starved<C>) -> (Option<C>, Option<Allocator<
 
 fn served<C: ChunkSource>(outcome: Outcome, starved: Option<Starved<C>>) -> Served<C> {
     Served { outcome, starved }
+}
+
+fn work<'a, J>(job: &'a J) -> Scripts<'a, J> {
+    Scripts { job }
 }
 
 fn refused(e: ScriptsErr) {

@@ -8,3 +8,4 @@ mod scripts;
 
 pub use arena_workers::{Gate, NoGate, Starved};
 pub use run::{ScriptsErr, Served, run_scripts};
+pub use scripts::Scripts;

@@ -8,10 +8,11 @@ use arena_workers::Work;
 use script_rules::{Ended, Outcome, Replies, Script};
 use std::alloc::Global;
 
-// Scripts that a job runs.
+/// The work of running scripts, for callers of `run_all` that wrap it; `run_scripts` does this work.
 #[derive(Drop)]
-pub(crate) struct Scripts<'a, J> {
-    pub(crate) job: &'a J,
+pub struct Scripts<'a, J> {
+    /// What runs each script.
+    pub job: &'a J,
 }
 
 impl<'a, C: ChunkSource, J: Job<C>> Work<C> for Scripts<'a, J> {
