@@ -4,9 +4,7 @@ use arena_items::AllocError;
 /// Why a part of a text has no tree.
 #[derive(Clone, Copy)]
 pub(crate) enum Stop {
-    AllocErr {
-        refused: u32,
-    },
+    AllocErr { refused: u32 },
     OutOfMemory,
     /// The text is refused.
     Text,

@@ -102,7 +102,10 @@ impl Tree {
     /// # Errors
     ///
     /// Those of `parse`. Blocks that were placed until then stay in the arena, unused, even if the text is refused.
-    pub fn parse_in_one_pass<C: ChunkSource>(a: &mut Allocator<C>, src: &[u8]) -> Result<Tree, TreeErr>
+    pub fn parse_in_one_pass<C: ChunkSource>(
+        a: &mut Allocator<C>,
+        src: &[u8],
+    ) -> Result<Tree, TreeErr>
         requires { length src.now ≤ 2 ^ 24 }
         ensures parses { ParsesInOnePass src.now a.old a.new result }
         ensures tree { IfOk result (IsTreeIn a.new.memory) }

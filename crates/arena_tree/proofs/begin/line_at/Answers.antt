@@ -38,9 +38,16 @@ returns-in_ok-behind-in-LetKey-clause-some c =
     let equals = c.in_ok-behind-in-LetKey.ensures.some in
     let key = stays AtLine AtName t refl (λ d. refl) in
     let is = reads_then key (reads_then (stays AtName AtEquals name.token refl (λ d. refl))
-    (stays AtEquals AtFactor equals refl (λ d. refl))) in
-    (is, is.later, is.within, name.range, name.token.within, omega (arith, t.later, name.begin), omega (arith, equals.later),
-    (_, name.token))
+    (stays AtEquals AtFactor equals refl (λ d. refl))) in (
+      is,
+      is.later,
+      is.within,
+      name.range,
+      name.token.within,
+      omega (arith, t.later, name.begin),
+      omega (arith, equals.later),
+      (_, name.token),
+    )
 
 pub returns-in_default-seen : goal.returns-in_default-seen
 returns-in_default-seen c =

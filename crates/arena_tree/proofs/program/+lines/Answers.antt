@@ -49,7 +49,7 @@ block-returns-in_default-clause-text g t c =
     let k = c.in_ok-list.ensures.trees.0 in
     let brace = opens_brace c.requires.nest c.if-deep-eq-MOST_OPEN.false c.requires.start in
     λ p. c.in_default.ensures.none c.args.deep
-        (subst (λ n. IsPassed c.args.src.now (at_line n) c.in_ok-list.stop) (add-one c.args.deep) (sym (brace.same tt ∙ k.same) ∙ p))
+    (subst (λ n. IsPassed c.args.src.now (at_line n) c.in_ok-list.stop) (add-one c.args.deep) (sym (brace.same tt ∙ k.same) ∙ p))
 
 pub block-returns-in_default-clause-spends : goal.block-returns-in_default-clause-spends
 block-returns-in_default-clause-spends g t c =

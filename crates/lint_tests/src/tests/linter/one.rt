@@ -1,6 +1,6 @@
 // Tests of texts, each of which is linted alone in an arena.
-use super::super::{ample, fixed};
 use super::super::reports::reported;
+use super::super::{ample, fixed};
 use arena_chunks::{Allocator, MemoryChunks};
 use arena_lint::lint_one;
 use std::alloc::Global;
