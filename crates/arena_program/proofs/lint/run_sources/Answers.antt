@@ -20,7 +20,8 @@ returns-in_default-into_texts g c = λ arena. (
 pub returns : goal.returns
 returns g c = λ arena. pieces_printed SourcesOf (IsLintedAlone _ Standard)
     (λ linted. linted.starved) text_of_linted _ _ _ _ c.print_all.result _ c.in-Ok.bytes.items c.in-Ok-sources_in.sources.items
-    c.in-Ok-lint_over_pool.ensures.all c.in-Ok.ensures.all (omega (arith, c.in-Ok.ensures.kept)) (c.in-Ok-sources_in.ensures.sources ∙ ap sources c.as_slice.ensures.value)
+    c.in-Ok-lint_over_pool.ensures.all c.in-Ok.ensures.all (omega (arith, c.in-Ok.ensures.kept))
+    (c.in-Ok-sources_in.ensures.sources ∙ ap sources c.as_slice.ensures.value)
     (record {
       alone = c.in-Ok-lint_over_pool.ensures.alone;
       gained = rw c.in-Ok-lint_over_pool.ensures.gained at c.in-Ok-into_texts.ensures.gained;

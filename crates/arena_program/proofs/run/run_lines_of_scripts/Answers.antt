@@ -19,7 +19,8 @@ returns-in_default-into_texts g c = λ arena. (
 pub returns : goal.returns
 returns g c = λ arena. pieces_printed ScriptsOf (IsServedAlone _ (kind_of c.args.task.lender) _)
     (λ served. served.starved) text_of_served _ _ _ _ c.print_all.result _ c.in-Ok.bytes.items c.in-Ok-parse_scripts.scripts.items
-    c.in-Ok-run_task.ensures.all c.in-Ok.ensures.all (omega (arith, c.in-Ok.ensures.kept)) (rw c.as_slice.ensures.value at c.in-Ok-parse_scripts.ensures.scripts)
+    c.in-Ok-run_task.ensures.all c.in-Ok.ensures.all (omega (arith, c.in-Ok.ensures.kept))
+    (rw c.as_slice.ensures.value at c.in-Ok-parse_scripts.ensures.scripts)
     (record {
       alone = c.in-Ok-run_task.ensures.alone;
       gained = rw c.in-Ok-run_task.ensures.gained at c.in-Ok-into_texts.ensures.gained;
