@@ -1,36 +1,13 @@
 -- Texts one after another: put together, and written.
-use Rattle.std.proofs.Common.{◌≡◌, ℕ, suc, zero, ◌+◌, List, [], ◌∷◌, ◌++◌, Option, length, set, get_or, sym, ap, ◌∙◌, append_assoc, arith}
+use Rattle.std.proofs.Common.{◌≡◌, ℕ, suc, zero, ◌+◌, ◌<◌, List, [], ◌∷◌, ◌++◌, Option, length, set, get_or, take, drop, sym, ap, ◌∙◌, subst, append_assoc, arith}
 use Rattle.std.specs.Prelude.{Vec}
 use Rattle.std.specs.Global.{Global}
 use Rattle.std.proofs.lemmas.Grind.{flat_map-append}
-use Rattle.arena_workers.specs.declared.served.Starved.{Starved}
-use Rattle.arena_program.specs.PoolEnds.{shown, starved_of}
-use Rattle.arena_program.specs.Told.{text_from, joined}
-use Rattle.std.proofs.Common.{◌≡◌, ℕ, suc, zero, ◌+◌, ◌<◌, List, [], ◌∷◌, ◌++◌, Option, length, set, get_or, take, drop, sym, ap, ◌∙◌, subst, append_assoc, arith}
-use Rattle.std.specs.Prelude.{Vec}
 use Rattle.std.proofs.lemmas.List.{append-nil, take-append-drop}
-use Rattle.arena_calls.specs.Streams.{Writes, WritesPart}
-use Rattle.arena_calls.proofs.StreamLemmas.{writes_both, part_of_first, part_of_second}
 use Rattle.line_parts.proofs.RoomLemmas.{take_next}
+use Rattle.arena_calls.specs.Streams.{Writes, WritesPart}
+use Rattle.arena_calls.proofs.StreamLemmas.{part_of_first, part_of_second}
 use Rattle.arena_program.specs.Told.{joined}
-
--- ---- One after another
-
-module _ {S : Type 0} (i : ℕ) (served : S) (all rest : List S) (first : all ≡ served ∷ rest) where
-  -- the text of the next one was appended
-  pub text_step : (text : ℕ → S → List ℕ) (whole old new : List ℕ) → old ++ text_from text i all ≡ whole
-      → new ≡ old ++ text i served → new ++ text_from text (i + 1) rest ≡ whole
-  text_step text whole old new before put =
-      ap (λ xs. xs ++ text_from text (i + 1) rest) put ∙ append_assoc old (text i served) (text_from text (i + 1) rest)
-      ∙ ap (λ xs. old ++ text_from text i xs) (sym first) ∙ before
-
-  -- what shows that it was starved was appended
-  pub starved_step : {C : Type 0} (starved : S → Option (Starved C)) (whole old new : List (ℕ × Starved C))
-      → old ++ starved_of starved i all ≡ whole → new ≡ old ++ shown i (starved served) → new ++ starved_of starved (i + 1) rest ≡ whole
-  starved_step starved whole old new before put =
-      ap (λ xs. xs ++ starved_of starved (i + 1) rest) put
-      ∙ append_assoc old (shown i (starved served)) (starved_of starved (i + 1) rest)
-      ∙ ap (λ xs. old ++ starved_of starved i xs) (sym first) ∙ before
 
 -- the last of some texts has another text behind it
 pub joined_last : (texts : List (Vec ℕ Global)) (last : ℕ) (d new : Vec ℕ Global) (text : List ℕ) → last + 1 ≡ length texts
@@ -44,20 +21,12 @@ joined_last (one ∷ other ∷ texts) (suc last) d new text there put =
     ap (λ xs. one.items ++ xs) (joined_last (other ∷ texts) last d new text (omega (arith, there)) put)
     ∙ sym (append_assoc one.items (joined (other ∷ texts)) text)
 
-pub joined_more : (texts : List (Vec ℕ Global)) (i : ℕ) (text : Vec ℕ Global) → i < length texts → text ≡ get_or texts i text
+joined_more : (texts : List (Vec ℕ Global)) (i : ℕ) (text : Vec ℕ Global) → i < length texts → text ≡ get_or texts i text
     → joined (take (i + 1) texts) ≡ joined (take i texts) ++ text.items
 joined_more texts i text within is = ap joined (take_next texts i text text within is)
     ∙ flat_map-append (λ t. t.items) (take i texts) (text ∷ []) ∙ ap (λ xs. joined (take i texts) ++ xs) (append-nil text.items)
 
--- one more text was written
-pub one_more : (old mid new : Option (List ℕ)) (texts : List (Vec ℕ Global)) (i : ℕ) (text : Vec ℕ Global) → i < length texts
-    → text ≡ get_or texts i text → Writes old mid (joined (take i texts)) → Writes mid new text.items
-    → Writes old new (joined (take (i + 1) texts))
-one_more old mid new texts i text within is before wrote =
-    subst (Writes old new) (sym (joined_more texts i text within is))
-    (writes_both old mid new (joined (take i texts)) text.items before wrote)
-
--- a part of it was written
+-- a part of one was written, behind those before it
 pub part_of_all : (old mid new : Option (List ℕ)) (texts : List (Vec ℕ Global)) (i : ℕ) (text : Vec ℕ Global) → i < length texts
     → text ≡ get_or texts i text → Writes old mid (joined (take i texts)) → WritesPart mid new text.items
     → WritesPart old new (joined texts)

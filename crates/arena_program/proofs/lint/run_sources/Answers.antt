@@ -18,14 +18,16 @@ returns-in_default-into_texts g c = λ arena. (
 )
 
 pub returns : goal.returns
-returns g c = let is = c.in-Ok-lint_over_pool.ensures in λ arena. pieces_printed SourcesOf (IsLintedAlone _ Standard)
-    (λ linted. linted.starved) text_of_linted _ _ _ _ c.print_all.result _ c.in-Ok.bytes.items c.in-Ok-sources_in.sources.items is.all
-    c.in-Ok.ensures.all (omega (arith, c.in-Ok.ensures.kept)) (c.in-Ok-sources_in.ensures.sources ∙ ap sources c.as_slice.ensures.value)
+returns g c = λ arena. pieces_printed SourcesOf (IsLintedAlone _ Standard)
+    (λ linted. linted.starved) text_of_linted _ _ _ _ c.print_all.result _ c.in-Ok.bytes.items c.in-Ok-sources_in.sources.items
+    c.in-Ok-lint_over_pool.ensures.all c.in-Ok.ensures.all (omega (arith, c.in-Ok.ensures.kept))
+    (c.in-Ok-sources_in.ensures.sources ∙ ap sources c.as_slice.ensures.value)
     (record {
-      alone = is.alone;
-      gained = rw is.gained at c.in-Ok-into_texts.ensures.gained;
+      alone = c.in-Ok-lint_over_pool.ensures.alone;
+      gained = rw c.in-Ok-lint_over_pool.ensures.gained at c.in-Ok-into_texts.ensures.gained;
       arena = refl;
     })
     c.in-Ok.ensures.faults
-    (ap joined (c.as_slice-2.ensures.value ∙ ap (λ v. v.items) c.in-Ok-into_texts.ensures.texts) ∙ is.texts ∙ reports_whole is.all)
+    (ap joined (c.as_slice-2.ensures.value ∙ ap (λ v. v.items) c.in-Ok-into_texts.ensures.texts) ∙ c.in-Ok-lint_over_pool.ensures.texts
+    ∙ reports_whole c.in-Ok-lint_over_pool.ensures.all)
     c.print_all.ensures

@@ -17,14 +17,16 @@ returns-in_default-into_texts g c = λ arena. (
 )
 
 pub returns : goal.returns
-returns g c = let is = c.in-Ok-run_task.ensures in λ arena. pieces_printed ScriptsOf (IsServedAlone _ (kind_of c.args.task.lender) _)
-    (λ served. served.starved) text_of_served _ _ _ _ c.print_all.result _ c.in-Ok.bytes.items c.in-Ok-parse_on_workers.scripts.items is.all
-    c.in-Ok.ensures.all (omega (arith, c.in-Ok.ensures.kept)) (rw c.as_slice.ensures.value at c.in-Ok-parse_on_workers.ensures.scripts)
+returns g c = λ arena. pieces_printed ScriptsOf (IsServedAlone _ (kind_of c.args.task.lender) _)
+    (λ served. served.starved) text_of_served _ _ _ _ c.print_all.result _ c.in-Ok.bytes.items c.in-Ok-parse_on_workers.scripts.items
+    c.in-Ok-run_task.ensures.all c.in-Ok.ensures.all (omega (arith, c.in-Ok.ensures.kept))
+    (rw c.as_slice.ensures.value at c.in-Ok-parse_on_workers.ensures.scripts)
     (record {
-      alone = is.alone;
-      gained = rw is.gained at c.in-Ok-into_texts.ensures.gained;
+      alone = c.in-Ok-run_task.ensures.alone;
+      gained = rw c.in-Ok-run_task.ensures.gained at c.in-Ok-into_texts.ensures.gained;
       arena = refl;
     })
     c.in-Ok.ensures.faults
-    (ap joined (c.as_slice-2.ensures.value ∙ ap (λ v. v.items) c.in-Ok-into_texts.ensures.texts) ∙ is.texts ∙ scripts_whole is.all)
+    (ap joined (c.as_slice-2.ensures.value ∙ ap (λ v. v.items) c.in-Ok-into_texts.ensures.texts) ∙ c.in-Ok-run_task.ensures.texts
+    ∙ scripts_whole c.in-Ok-run_task.ensures.all)
     c.print_all.ensures
