@@ -47,10 +47,7 @@ pub fn join_parts(
     ensures scripts { IfOk result (λ scripts. ScriptsOf bytes.now (Ok scripts.items)) }
     ensures refused { IfErr result (IsCause (λ n. ScriptsOf bytes.now (Err n))) }
 {
-    let mut scripts = match first {
-        Ok(scripts) => scripts,
-        Err(failed) => return Err(failed),
-    };
+    let mut scripts = first?;
     match rest {
         Ok(mut more) => match scripts.append(&mut more) {
             Ok(()) => Ok(scripts),
