@@ -1,4 +1,6 @@
 -- Lemmas on runs of calls.
+pub mod Trees
+pub mod FirstNames
 pub mod Log
 pub mod Known
 pub mod Change

@@ -1,6 +1,8 @@
 -- What is true of a run of calls over an arena.
 pub mod Replies
+pub mod PlaceCode
 pub mod Marks
+pub mod Names
 pub mod Serving
 pub mod Running
 use Rattle.std.specs.Prelude.{◌≡◌, false, ℕ, ◌<◌, ◌≤◌, Some, IsTrue, List, map, sum, take, length, slice_get}

@@ -1,6 +1,7 @@
 // Runs of calls by name.
 mod marks;
 mod names;
+mod others;
 mod replies;
 mod run;
 mod serve;

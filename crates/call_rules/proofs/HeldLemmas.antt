@@ -7,7 +7,7 @@ use Rattle.std.specs.FinMap.{get-insert, get-remove, same_map, nat_cmp-IsAntisym
 use Rattle.std.proofs.lemmas.Bool.{cases_eq}
 use Rattle.std.proofs.lemmas.Option.{none-some}
 
-pub ties : (k : ℕ) → eq_by_cmp nat_cmp k k ≡ true
+ties : (k : ℕ) → eq_by_cmp nat_cmp k k ≡ true
 ties k = unsigned_tied k k ∙ eq-eqb k k (λ _. k)
 
 differs : (q k : ℕ) → q ≢ k → eq_by_cmp nat_cmp q k ≡ false

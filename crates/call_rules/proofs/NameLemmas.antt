@@ -1,14 +1,13 @@
 -- Names whose values are in a list or elsewhere: what changes with a value in the list, or elsewhere.
-use Rattle.std.proofs.Common.{◌≡◌, ◌≢◌, ℕ, zero, suc, ◌+◌, ◌<◌, ◌≤◌, ◌⊎◌, inl, inr, ap, refl, sym, ◌∙◌, arith, List, [], ◌∷◌, ◌++◌, cond, Option, Some, None, Bool, true, false, Less, length, get_or, replicate, drop, append_assoc}
+use Rattle.std.proofs.Common.{◌≡◌, ◌≢◌, ℕ, zero, suc, ◌+◌, ◌<◌, ◌≤◌, ◌⊎◌, inl, inr, ap, refl, sym, ◌∙◌, arith, List, [], ◌∷◌, ◌++◌, cond, Option, Some, None, Bool, true, false, length, get_or, replicate}
 use Rattle.std.specs.Prelude.{slice_set}
 use Rattle.std.specs.Ordering.{nat_cmp, eq_by_cmp}
-use Rattle.std.specs.Cmp.{nat_cmp_total, nat_cmp_is}
-use Rattle.std.specs.FinMap.{FinMap, get, insert, remove, empty, entries, find, put, get-empty, get-insert, get-remove, get-entries, entries-insert}
+use Rattle.std.specs.Cmp.{nat_cmp_total}
+use Rattle.std.specs.FinMap.{FinMap, get, insert, remove, empty, get-empty, get-insert, get-remove}
 use Rattle.std.proofs.lemmas.Bool.{cases_lt}
-use Rattle.std.proofs.lemmas.List.{length-set, get_or-set_same, get_or-set_other, drop_more, drop_all}
-use Rattle.std.proofs.lemmas.Option.{none-some}
+use Rattle.std.proofs.lemmas.List.{length-set, get_or-set_same, get_or-set_other}
 use Rattle.call_rules.specs.Names.{named_with, HasNoneBelow}
-use Rattle.call_rules.proofs.HeldLemmas.{ties, agree, get-inserted, get-insert_other, get-removed, get-remove_other}
+use Rattle.call_rules.proofs.HeldLemmas.{agree, get-inserted, get-insert_other, get-removed, get-remove_other}
 
 module _ {X : Type 0} where
   -- a name that the list doesn't have
@@ -84,6 +83,10 @@ module _ {X : Type 0} where
       agree _ _ k (set_own values others k None none within ∙ sym (get-removed (named_with 0 values others) k))
       (λ q differs. set_other values others k None q none differs ∙ sym (get-remove_other (named_with 0 values others) k q differs))
 
+  pub none_set : (values : List (Option X)) (others : FinMap nat_cmp X) (k : ℕ) (o : Option X) → HasNoneBelow (length values) others
+      → HasNoneBelow (length (slice_set values k o)) others
+  none_set values others k o none = λ q within. none q (omega (arith, length-set values k o))
+
   -- a name past the list
   pub insert_other : (values : List (Option X)) (others : FinMap nat_cmp X) (k : ℕ) (p : X) → length values ≤ k
       → named_with 0 values (insert others k p) ≡ insert (named_with 0 values others) k p
@@ -119,7 +122,7 @@ module _ {X : Type 0} where
   none_before n m others none less = λ q within. none q (omega (arith, within, less))
 
   -- a longer list of which the rest is free
-  pub with_free : (i n : ℕ) (others : FinMap nat_cmp X) → named_with i (replicate n None) others ≡ others
+  with_free : (i n : ℕ) (others : FinMap nat_cmp X) → named_with i (replicate n None) others ≡ others
   with_free i zero others = refl
   with_free i (suc n) others = with_free (i + 1) n others
 
@@ -136,45 +139,3 @@ module _ {X : Type 0} where
   insert_next values more n others k v is none within =
       insert_first more others k v none within
       ∙ ap (λ m. insert m k v) (ap (λ xs. named_with 0 xs others) is ∙ with_more 0 values n others)
-
-  -- ---- The entries by ascending name
-
-  -- a name below all others comes first
-  put_first : (k : ℕ) (v : X) (es : List (ℕ × X)) → ((q : ℕ) → q < k + 1 → find nat_cmp q es ≡ None)
-      → put nat_cmp k v es ≡ (k, v) ∷ es
-  put_first k v [] none = refl
-  put_first k v (e ∷ es) none = elim (cases_lt k e.0) [
-    | inl below ↦ let less : nat_cmp k e.0 ≡ Less = sym (nat_cmp_is k e.0 Less below) in rw less refl
-    | inr within ↦ absurd (none-some e.1
-        (sym (none e.0 (omega arith)) ∙ ap (λ (b : Bool). cond b (Some e.1) (find nat_cmp e.0 es)) (ties e.0)))
-  ]
-
-  -- pairs so far, and the entries from a name on that has a value
-  pub listed_more : (values : List (Option X)) (others : FinMap nat_cmp X) (at : ℕ) (o : Option X) (v : X) (pairs all : List (ℕ × X))
-      → HasNoneBelow (at + 1) others → at < length values → o ≡ get_or values at o → o ≡ Some v
-      → pairs ++ entries (named_with at (drop at values) others) ≡ all
-      → (pairs ++ (at, v) ∷ []) ++ entries (named_with (at + 1) (drop (at + 1) values) others) ≡ all
-  listed_more values others at o v pairs all none within is some so_far =
-      let rest = named_with (at + 1) (drop (at + 1) values) others in
-      let first : entries (insert rest at v) ≡ (at, v) ∷ entries rest = entries-insert nat_cmp_total rest at v
-      ∙ put_first at v (entries rest) (λ q below. sym (get-entries rest q)
-      ∙ with_other (at + 1) (drop (at + 1) values) others q (inl below) ∙ none q below) in
-      let here : drop at values ≡ Some v ∷ drop (at + 1) values = drop_more values at o within
-      ∙ ap (λ (x : Option X). x ∷ drop (at + 1) values) (sym is ∙ some) in
-      append_assoc pairs ((at, v) ∷ []) (entries rest)
-      ∙ ap (λ es. pairs ++ es) (sym first ∙ ap (λ (os : List (Option X)). entries (named_with at os others)) (sym here)) ∙ so_far
-
-  -- the same where it has none
-  pub listed_none : (values : List (Option X)) (others : FinMap nat_cmp X) (at : ℕ) (o : Option X) (pairs all : List (ℕ × X))
-      → at < length values → o ≡ get_or values at o → o ≡ None → pairs ++ entries (named_with at (drop at values) others) ≡ all
-      → pairs ++ entries (named_with (at + 1) (drop (at + 1) values) others) ≡ all
-  listed_none values others at o pairs all within is none so_far =
-      let here : drop at values ≡ None ∷ drop (at + 1) values = drop_more values at o within
-      ∙ ap (λ (x : Option X). x ∷ drop (at + 1) values) (sym is ∙ none) in
-      ap (λ (os : List (Option X)). pairs ++ entries (named_with at os others)) (sym here) ∙ so_far
-
-  -- the same at the end of the list
-  pub listed_all : (values : List (Option X)) (others : FinMap nat_cmp X) (at : ℕ) (pairs all : List (ℕ × X)) → length values ≤ at
-      → pairs ++ entries (named_with at (drop at values) others) ≡ all → pairs ++ entries others ≡ all
-  listed_all values others at pairs all past so_far =
-      ap (λ (os : List (Option X)). pairs ++ entries (named_with at os others)) (sym (drop_all at values past)) ∙ so_far

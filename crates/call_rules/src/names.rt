@@ -1,5 +1,5 @@
 // What names hold.
-ghost use Rattle.std.specs.Prelude.{◌≡◌, OnOk, OnErr, IfOk, IsSome, IsOk};
+ghost use Rattle.std.specs.Prelude.{◌≡◌, OnOk, OnErr, IsSome, IsOk};
 ghost use Rattle.std.specs.Ordering.{nat_cmp};
 ghost use Rattle.std.specs.FinMap as map;
 
@@ -48,21 +48,7 @@ impl<V: Copy> Names<V> {
         }
     }
 
-    /// Returns a map with no names that has the whole list: setting the value of a name below 256 takes no memory.
-    ///
-    /// # Errors
-    ///
-    /// Out of memory.
-    pub fn with_list(alloc: Global) -> Result<Names<V>, OutOfMemory>
-        ensures { IfOk result (λ names. names ≡ map.empty) }
-    {
-        let mut names = Names::new(alloc);
-        names.first.resize(FIRST, None)?;
-        Ok(names)
-    }
-
     /// Returns the value of a name, if it has one.
-    #[inline(always)]
     pub fn get(&self, name: u32) -> Option<V>
         ensures { result ≡ map.get self.now name }
     {
@@ -78,7 +64,6 @@ impl<V: Copy> Names<V> {
     /// # Errors
     ///
     /// Out of memory. The map is unchanged.
-    #[inline(always)]
     pub fn insert(&mut self, name: u32, value: V) -> Result<(), OutOfMemory>
         ensures ok { OnOk result (self.new ≡ map.insert self.old name value) }
         ensures err { OnErr result (self.new ≡ self.old) }
@@ -99,7 +84,6 @@ impl<V: Copy> Names<V> {
     }
 
     /// Removes a name, and returns its value if it had one. Takes no memory.
-    #[inline(always)]
     pub fn remove(&mut self, name: u32) -> Option<V>
         ensures value { result ≡ map.get self.old name }
         ensures rest { self.new ≡ map.remove self.old name }
@@ -113,33 +97,11 @@ impl<V: Copy> Names<V> {
         self.others.remove(&name)
     }
 
-    /// Removes all names. The list stays as long as it is.
+    /// Removes all names.
     pub fn clear(&mut self, alloc: Global)
         ensures { self.new ≡ map.empty }
     {
-        for i in 0..self.first.len() {
-            self.first[i] = None;
-        }
+        self.first.clear();
         self.others = BTreeMap::new(alloc);
-    }
-
-    /// Returns the names and their values, by ascending name.
-    ///
-    /// # Errors
-    ///
-    /// Out of memory.
-    pub fn sorted(&self, alloc: Global) -> Result<Vec<(u32, V)>, OutOfMemory>
-        ensures { IfOk result (λ pairs. pairs.items ≡ map.entries self.now) }
-    {
-        let mut pairs = Vec::new(alloc);
-        for at in 0..self.first.len() {
-            if let Some(value) = self.first[at] {
-                pairs.push((at as u32, value))?;
-            }
-        }
-        for (name, value) in &self.others {
-            pairs.push((*name, *value))?;
-        }
-        Ok(pairs)
     }
 }

@@ -4,10 +4,9 @@ ghost use Rattle.std.specs.Option.{is_some};
 ghost use Rattle.call_rules.specs.Machine.{mark_named};
 ghost use Rattle.arena_chunks.specs.Runs.Marks.{Noted, named, marks_from, stands, LetsGo, Forgets};
 
-use crate::runs::names::keep;
+use crate::runs::names::Names;
 use arena_core::{Arena, Checkpoint};
-use arena_rules::{OutOfMemory, Place};
-use call_rules::Names;
+use arena_rules::OutOfMemory;
 use std::alloc::Global;
 use std::collections::BTreeSet;
 use std::marker::Model;
@@ -117,7 +116,7 @@ impl Marks {
     }
 
     // Removes the names whose blocks the rewind has freed.
-    pub(crate) fn forget<const M: usize>(&mut self, arena: &Arena<M>, names: &mut Names<Place>)
+    pub(crate) fn forget<const M: usize>(&mut self, arena: &Arena<M>, names: &mut Names)
         ensures { Forgets arena.now.state names.old names.new self.old self.new }
     {
         let count = let_go(arena, names, &self.log);
@@ -135,14 +134,14 @@ impl Marks {
 
 // Reads the log from its last name back, and removes each name whose block isn't in use, until it finds a name whose
 // block is in use and isn't empty. Returns the length of the log up to that name, or 0 if there is none.
-fn let_go<const M: usize>(arena: &Arena<M>, names: &mut Names<Place>, log: &Vec<u32>) -> usize
+fn let_go<const M: usize>(arena: &Arena<M>, names: &mut Names, log: &Vec<u32>) -> usize
     ensures lets { LetsGo arena.now.state names.old names.new result log.now.items }
     ensures over { 0 < result → IsTrue (stands arena.now.state names.new (get_or log.now.items (result - 1) 0)) }
 {
     let mut count = log.len();
     while count > 0 {
         let name = log[count - 1];
-        let stays = keep(names, arena, name);
+        let stays = names.keep(arena, name);
         if stays {
             return count;
         }

@@ -7,13 +7,13 @@ ghost use Rattle.arena_chunks.specs.Runs.{Runs, Stops, StopsWith};
 ghost use Rattle.arena_chunks.specs.Runs.Running.{IsRunning, IsOnTheWay, GoesOn, StaysAt, StaysBehind, EndsWith};
 
 use crate::runs::marks::Marks;
-use crate::runs::names::blocks;
+use crate::runs::names::Names;
 use crate::runs::replies::{Listed, Replies};
 use crate::runs::serve::serve_into;
 use arena_core::Arena;
-use arena_rules::{OutOfMemory, Place};
+use arena_rules::OutOfMemory;
 use arena_store::{Block, ChunkSource};
-use call_rules::{Call, Names, Reply};
+use call_rules::{Call, Reply};
 use std::alloc::Global;
 
 /// The result of a run of calls: a reply for each call, and the blocks that names hold at the end, by ascending name.
@@ -34,7 +34,7 @@ pub enum Stopped {
 #[derive(Drop)]
 pub struct Run {
     pub(crate) alloc: Global,
-    pub(crate) names: Names<Place>,
+    pub(crate) names: Names,
     pub(crate) marks: Marks,
 }
 
@@ -52,7 +52,7 @@ impl Run {
         arena.known();
         Ok(Run {
             alloc,
-            names: Names::with_list(alloc)?,
+            names: Names::new(alloc)?,
             marks: Marks::new(alloc),
         })
     }
@@ -99,7 +99,7 @@ impl Run {
             EndsWith (view arena.now source) self.now.names self.now.marks held.items) }
         ensures err { (source : Source) → OnErr result (StaysBehind (view arena.now source) self.now.names self.now.marks) }
     {
-        let held = blocks(self.alloc, arena, &self.names)?;
+        let held = self.names.blocks(self.alloc, arena.generation())?;
         Ok(held)
     }
 }

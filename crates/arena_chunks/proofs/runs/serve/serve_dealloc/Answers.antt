@@ -8,7 +8,7 @@ use Rattle.arena_chunks.proofs.runs.serve.serve_dealloc.Goals as goal
 pub returns-in_default-clause-serves : goal.returns-in_default-clause-serves
 unfolding step placed_anew
 returns-in_default-clause-serves g c = λ source.
-    let none = sym c.remove.ensures.value ∙ c.in_default.is in
+    let none = sym c.remove.ensures.place ∙ c.in_default.is in
     rw (c.remove.ensures.rest, remove_absent c.args.names.now c.args.name none)
     (serves_still _ _ _ _ _ _ c.requires (λ marks bytes held. absent_at c.args.arena.now c.args.names.now marks bytes c.args.name _ none)
     (asks_still _ _ _ _ _ refl (λ marks bytes. refl) (λ marks bytes. refl)))
@@ -17,12 +17,12 @@ pub dealloc-requires : goal.dealloc-requires
 dealloc-requires g c = (
   omega arith,
   rw c.block_at.ensures
-      (readable_at _ _ c.args.name c.in-Some.place c.requires (sym c.remove.ensures.value ∙ c.in-Some.is)),
+      (readable_at _ _ c.args.name c.in-Some.place c.requires (sym c.remove.ensures.place ∙ c.in-Some.is)),
 )
 
 pub returns-clause-serves : goal.returns-clause-serves
 returns-clause-serves g c = λ source.
-    let found = sym c.remove.ensures.value ∙ c.in-Some.is in
+    let found = sym c.remove.ensures.place ∙ c.in-Some.is in
     rw c.remove.ensures.rest
     (serves_dealloc c.args.arena.now c.dealloc.new.self c.args.names.now c.args.name c.in-Some.place source c.requires found
     (rw c.block_at.ensures at c.dealloc.ensures))
