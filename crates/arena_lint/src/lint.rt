@@ -1,8 +1,9 @@
 // The report of one text.
-ghost use Rattle.std.specs.Prelude.{◌≡◌, ◌+◌, ◌*◌, ◌^◌, ◌≤◌, length, IfOk, IfErr, OnOk};
+ghost use Rattle.std.specs.Prelude.{◌≡◌, ◌+◌, ◌*◌, ◌^◌, ◌≤◌, [], length, IfOk, IfErr, OnOk};
 ghost use Rattle.arena_items.specs.Costs.{used};
 ghost use Rattle.arena_tree.specs.Given.{Means};
 ghost use Rattle.arena_tree.specs.Spending.{error_of};
+ghost use Rattle.lint_reports.specs.Reports.{report_text};
 ghost use Rattle.tree_rules.specs.Report.{findings_of};
 ghost use Rattle.tree_rules.specs.Trees.{Stmts};
 ghost use Rattle.tree_rules.specs.Weights.{weights};
@@ -14,6 +15,7 @@ ghost use Rattle.arena_lint.specs.Spending.{Spends, walk_asks, walk_bytes};
 use crate::walk::walk;
 use arena_chunks::{Allocator, ChunkSource};
 use arena_items::{AllocError, Grown};
+use arena_rules::OutOfMemory;
 use arena_symbols::Names;
 use arena_tree::{Tree, TreeErr};
 use lint_reports::{FileReport, Findings, TakesFindings, put_report};
@@ -110,6 +112,28 @@ pub fn lint_one<C: ChunkSource>(alloc: Global, a: &mut Allocator<C>, src: &[u8])
     }
 }
 
+// The report of a text for whose findings there is no memory.
+fn without_findings<C: ChunkSource>(a: &mut Allocator<C>, src: &[u8]) -> FileReport
+    requires unused { used a.old ≡ 0 }
+    requires small { length src.now ≤ 2 ^ 24 }
+    ensures { Lints src.now a.old a.new result }
+{
+    tree_weight();
+    match Tree::parse_in_one_pass(a, src) {
+        Ok(_) => FileReport::OutOfMemory,
+        Err(why) => unparsed(a, why),
+    }
+}
+
+// The text of a report of no findings, with room for as many bytes as the source has.
+fn begin_text(alloc: Global, src: &[u8], i: u64) -> Result<Vec<u8>, OutOfMemory>
+    ensures { IfOk result (λ text. text.items ≡ report_text i (FileReport.Checked [])) }
+{
+    let mut text = Vec::with_capacity(alloc, src.len())?;
+    put_report(&mut text, i, &FileReport::Checked(Findings::new(alloc)))?;
+    Ok(text)
+}
+
 /// Does what `lint_one` does, for source number `i`, but returns the text of the report, and whether it is `Refused`.
 /// The findings go straight into the text.
 ///
@@ -127,10 +151,8 @@ pub fn lint_text<C: ChunkSource>(
     ensures text { IfOk result (λ told. IsTextOf i (Lints src.now a.old a.new) told.0.items told.1) }
     ensures report { IfErr result (Lints src.now a.old a.new) }
 {
-    let mut text = Vec::new(alloc);
-    // The line of the source alone.
-    let Ok(()) = put_report(&mut text, i, &FileReport::Checked(Findings::new(alloc))) else {
-        return Err(lint_one(alloc, a, src));
+    let Ok(mut text) = begin_text(alloc, src, i) else {
+        return Err(without_findings(a, src));
     };
     let Err(report) = lint_with(alloc, a, src, &mut text) else {
         return Ok((text, false));
