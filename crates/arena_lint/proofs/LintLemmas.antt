@@ -1,6 +1,6 @@
 -- The report of one text.
 use Rattle.std.proofs.Common.{◌≡◌, ℕ, ◌+◌, ◌^◌, ◌≤◌, List, [], ◌∷◌, length, refl, sym, ap, ◌∙◌, inl, inr, true, false, Bool, Ok, Err, Some, None, arith}
-use Rattle.std.specs.Prelude.{◌*◌, ◌⊎◌, Option, IfNone}
+use Rattle.std.specs.Prelude.{◌*◌, ◌⊎◌, Option, IfNone, Result, OnOk}
 use Rattle.arena_rules.specs.State.{used_bytes}
 use Rattle.arena_rules.proofs.AskingLemmas.{asks_more}
 use Rattle.arena_chunks.specs.Memory.{Memory}
@@ -24,7 +24,6 @@ use Rattle.tree_rules.specs.Report.{findings_of}
 use Rattle.tree_rules.specs.Trees.{Stmts}
 use Rattle.tree_rules.specs.Refusals.{TreeOf}
 use Rattle.tree_rules.specs.Weights.{weights}
-use Rattle.tree_rules.specs.declared.finding.Finding.{Finding}
 use Rattle.arena_tree.specs.Given.{IsTreeIn, Means}
 use Rattle.arena_tree.specs.Layouts.{AskedFor}
 use Rattle.arena_tree.specs.Parsing.{ParsesInOnePass, TakesAtMost, IsProgramText, parse_bytes}
@@ -35,11 +34,12 @@ use Rattle.arena_tree.specs.declared.tree.Tree.{Tree}
 use Rattle.arena_tree.specs.declared.tree.TreeErr.{TreeErr}
 use Rattle.arena_tree.specs.declared.tree.TreeErr.TheVariants as tree
 use Rattle.arena_tree.proofs.Layers.{nodes_used, one_stmts}
+use Rattle.lint_reports.specs.Taking.{Taking}
 use Rattle.lint_reports.specs.Reports.{Reports, said}
 use Rattle.lint_reports.specs.declared.report.FileReport.{FileReport}
 use Rattle.lint_reports.specs.declared.report.FileReport.TheVariants.{Checked, Syntax, TooDeep, NumberTooBig, Full, Refused, OutOfMemory}
 use Rattle.arena_lint.specs.Knowing.{Knows}
-use Rattle.arena_lint.specs.Linting.{Lints, LintsAsk, lint_bytes, no_place, unparsed_by}
+use Rattle.arena_lint.specs.Linting.{Lints, Checks, LintsAsk, lint_bytes, no_place, unparsed_by}
 use Rattle.arena_lint.specs.Rooms.{ListHasStmts, IsLight}
 use Rattle.arena_lint.specs.Spending.{Spends, Takes, numbers_in, walk_asks, walk_bytes}
 use Rattle.arena_lint.proofs.KnowLemmas.{no_names}
@@ -99,6 +99,11 @@ parsed_light bytes old new light small parsed given = record {
   tree = given;
   light = omega (arith, ap weights (given_is given parsed.0 parsed.2.stand), light bytes parsed.0 parsed.1, small);
 }
+
+-- where both are known of a success, the second is
+pub second : (A B : Type 0) (result : Result (Unit {0}) AllocError) → OnOk result (A × B) → OnOk result B
+second A B (Ok x) both = both.1
+second A B (Err e) both = tt
 
 -- A walk from nothing spends what the tree's statements take.
 pub nothing_spends : {old new : View} {t : Tree} {k l : Known} {error : Option AllocError} (trees : Stmts) → IsLight old.memory t
@@ -194,10 +199,15 @@ module _ {bytes : List ℕ} {old mid new : View} (t : Tree) (light : AreLight) (
       (parse_spends {layouts = AskedFor bytes} {all = parse_bytes (length bytes)} (omega arith) takes) (walks parsed.0 parsed.2.stand)
       (omega (arith, few)) (omega (arith, few))
 
-  pub checked : (found : List Finding) → ((trees : Stmts) → Means mid.memory t trees → found ≡ findings_of trees) → Walks mid new t None
-      → Lints bytes old new (Checked found)
-  checked found is walks = lints unused (all_spends walks) (Checked found) (parsed.0, parsed.1, is parsed.0 parsed.2.stand) tt
-      (never (λ no. cc) (λ no. cc)) (λ no. absurd (cc)) (λ no. absurd (cc))
+  pub checked : {F : Type 0} (taking : Taking F) {first found : F}
+      → ((trees : Stmts) → Means mid.memory t trees → taking.gains first found (findings_of trees)) → Walks mid new t None
+      → Checks taking bytes old new first found
+  checked taking gained walks = record {
+    findings = findings_of parsed.0;
+    gained = gained parsed.0 parsed.2.stand;
+    lints = lints unused (all_spends walks) (Checked (findings_of parsed.0)) (parsed.0, parsed.1, refl) tt (never (λ no. cc) (λ no. cc))
+        (λ no. absurd (cc)) (λ no. absurd (cc));
+  }
 
   pub unplaced : (k : ℕ) → Walks mid new t (Some (alloc.AllocErr k)) → Lints bytes old new (no_place new.memory.state.is_growing)
   unplaced k walks = let spent = all_spends walks in

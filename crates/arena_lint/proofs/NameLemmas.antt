@@ -20,6 +20,7 @@ use Rattle.arena_tree.specs.TreesAt.{node_item, kids_of, kids_in, IsOnly, ExprAt
 use Rattle.arena_tree.specs.StmtsAt.{StmtAt}
 use Rattle.arena_tree.specs.Counts.{below, nodes, below_stmt}
 use Rattle.arena_tree.proofs.Layers.{one_row, list_len, seen, some_node}
+use Rattle.lint_reports.specs.Taking.{Taking}
 use Rattle.arena_lint.specs.Rooms.{HasExpr, HaveExprs, ListHasExprs, AreNamed, stmt_names}
 use Rattle.arena_lint.specs.Steps.{Left}
 
@@ -83,29 +84,32 @@ kid_within {m} {ns} {room} i n have = by have.exprs ns i have.stand have.good ha
     by (And e rest) (k ∷ ns) (suc i) at good few is = by rest ns i at.1 good.1 (omega (arith, few)) is
     by _ _ i at good few is = absurd at
 
--- One more child is done.
-pub kid_found : {m : Memory} {sets : List NameSet} {found new all : List Finding} (ns : List Node) (i : ℕ) (n : Node)
-    → slice_get ns i ≡ Some n → ((e : Expr) → ExprAt e m n → new ≡ found ++ undefined sets (names_of e))
-    → Left m (drop i ns) sets found all → Left m (drop (i + 1) ns) sets new all
-kid_found {m} {sets} {found} {new} {all} ns i n is one before =
-    by before.exprs (subst (ExprsAt before.exprs m) (drop_item ns i n is) before.stand) before.all_is
-  where
-    by : (es : Exprs) → ExprsAt es m (n ∷ drop (i + 1) ns) → found ++ undefined sets (all_names es) ≡ all
-        → Left m (drop (i + 1) ns) sets new all
-    by NoExprs at before = absurd at
-    by (And e rest) at before = record {
-      exprs = rest;
-      stand = at.1;
-      all_is = rw (one e at.0, append_assoc, ← undefined_both sets (names_of e) (all_names rest)) before;
-    }
+module _ {F : Type 0} (taking : Taking F) {m : Memory} {sets : List NameSet} {first found : F} {all : List Finding} where
+  -- One more child is done.
+  pub kid_found : {new : F} (ns : List Node) (i : ℕ) (n : Node) → slice_get ns i ≡ Some n
+      → ((e : Expr) → ExprAt e m n → taking.gains found new (undefined sets (names_of e)))
+      → Left taking m (drop i ns) sets first found all → Left taking m (drop (i + 1) ns) sets first new all
+  kid_found {new} ns i n is one before =
+      by before.exprs (subst (ExprsAt before.exprs m) (drop_item ns i n is) before.stand) before.all_is
+    where
+      by : (es : Exprs) → ExprsAt es m (n ∷ drop (i + 1) ns) → before.taken ++ undefined sets (all_names es) ≡ all
+          → Left taking m (drop (i + 1) ns) sets first new all
+      by NoExprs at done = absurd at
+      by (And e rest) at done = record {
+        exprs = rest;
+        stand = at.1;
+        taken = before.taken ++ undefined sets (names_of e);
+        gained = taking.both before.taken (undefined sets (names_of e)) before.gained (one e at.0);
+        all_is = rw (append_assoc, ← undefined_both sets (names_of e) (all_names rest)) done;
+      }
 
--- After the last one nothing is left.
-pub kids_found : {m : Memory} {sets : List NameSet} {found all : List Finding} (v : Vec Node) (i : ℕ) → i ≡ v.raw.len
-    → Left m (drop i (vec_list node_item m v)) sets found all → found ≡ all
-kids_found {m} {sets} {found} {all} v i last left =
-    by left.exprs (subst (ExprsAt left.exprs m) (drop_all i (vec_list node_item m v) (omega (arith, last, list_len m v))) left.stand)
-    left.all_is
-  where
-    by : (es : Exprs) → ExprsAt es m [] → found ++ undefined sets (all_names es) ≡ all → found ≡ all
-    by NoExprs at is = sym (append-nil found) ∙ is
-    by (And e rest) at is = absurd at
+  -- After the last one nothing is left.
+  pub kids_found : (v : Vec Node) (i : ℕ) → i ≡ v.raw.len → Left taking m (drop i (vec_list node_item m v)) sets first found all
+      → taking.gains first found all
+  kids_found v i last left =
+      by left.exprs (subst (ExprsAt left.exprs m) (drop_all i (vec_list node_item m v) (omega (arith, last, list_len m v))) left.stand)
+      left.all_is
+    where
+      by : (es : Exprs) → ExprsAt es m [] → left.taken ++ undefined sets (all_names es) ≡ all → taking.gains first found all
+      by NoExprs at is = subst (taking.gains first found) (sym (append-nil left.taken) ∙ is) left.gained
+      by (And e rest) at is = absurd at

@@ -1,8 +1,7 @@
 -- Statements of a tree, one by one, and in a later arena.
-use Rattle.std.proofs.Common.{◌≡◌, ℕ, zero, suc, ◌-◌, ◌<◌, ◌≤◌, ◌^◌, List, [], ◌∷◌, ◌++◌, length, refl, sym, ap, subst, Some, Ok, Err, arith}
+use Rattle.std.proofs.Common.{◌≡◌, ℕ, zero, suc, ◌-◌, ◌<◌, ◌≤◌, ◌^◌, List, [], ◌∷◌, length, refl, sym, ap, subst, Some, Ok, Err, arith}
 use Rattle.std.specs.Prelude.{slice_get, Result, OnOk}
 use Rattle.std.specs.Str.{IsUtf8}
-use Rattle.std.proofs.lemmas.List.{append_assoc}
 use Rattle.arena_chunks.specs.Memory.{Memory}
 use Rattle.arena_chunks.specs.Frame.{AreAllApart}
 use Rattle.arena_store.specs.declared.block.Block.{Block}
@@ -19,7 +18,6 @@ use Rattle.tree_rules.specs.Trees.{Expr, Stmt, Let, Show, Stmts, NoStmts, Then, 
 use Rattle.tree_rules.specs.Trees as tree
 use Rattle.tree_rules.specs.Weights.{weight, weights}
 use Rattle.tree_rules.specs.Report.{NameSet, undefined, defined, walk_stmt}
-use Rattle.tree_rules.specs.declared.finding.Finding.{Finding}
 use Rattle.tree_rules.proofs.NameLemmas.{name_text}
 use Rattle.tree_nodes.specs.declared.node.Kind.TheVariants as kind
 use Rattle.tree_nodes.specs.declared.node.Node.{Node}
@@ -29,6 +27,7 @@ use Rattle.arena_tree.specs.TreeLaws.{list_same, list_held}
 use Rattle.arena_tree.specs.StmtsAt.{StmtAt, StmtsAt, stmt_blocks, stmts_blocks}
 use Rattle.arena_tree.specs.StmtLaws.{stmt_readable, stmts_readable, stmt_names as blocks_same, stmts_names as all_blocks_same, stmt_again, stmts_again}
 use Rattle.arena_tree.proofs.Layers.{one_stmts, line_seen, some_node}
+use Rattle.lint_reports.specs.Taking.{Taking}
 use Rattle.arena_lint.specs.Knowing.{Knows}
 use Rattle.arena_lint.specs.Rooms.{HasStmt, HaveStmts, ListHasStmts, stmt_names}
 use Rattle.arena_lint.specs.Steps.{Finds}
@@ -75,28 +74,30 @@ let_name {m} {n} has is =
     let s = line_seen kind.Let m n is has.stmt has.stands in
     (s.1, name_text (text_bytes m n.text) (subst IsStmt s.3 has.good).0, omega (arith, ap weight s.3, has.light))
 
-pub let_finds : (old new : Memory) (k l : Known) (first mid found : List Finding) (result : Result (Unit {0}) AllocError) (s : Stmt)
-    (n : Node) → StmtAt s old n → n.kind ≡ kind.Let
-    → ((sets : List NameSet) → Knows old k sets → mid ≡ first ++ undefined sets (stmt_names s))
-    → Finds old new k l mid found result (defined (text_bytes old n.text)) → Finds old new k l first found result (walk_stmt s)
-unfolding walk_stmt
-let_finds old new k l first mid found (Err e) s n at is uses finds sets knows = tt
-let_finds old new k l first mid found (Ok x) s n at is uses finds sets knows =
-    let one = finds sets knows in
-    let line = (line_seen kind.Let old n is s at).3 in
-    rw line (one.0, rw (one.1, rw line at (uses sets knows)) (append_assoc first _ _))
+module _ {F : Type 0} (taking : Taking F) where
+  pub let_finds : (old new : Memory) (k l : Known) (first mid found : F) (result : Result (Unit {0}) AllocError) (s : Stmt) (n : Node)
+      → StmtAt s old n → n.kind ≡ kind.Let
+      → ((sets : List NameSet) → Knows old k sets → taking.gains first mid (undefined sets (stmt_names s)))
+      → Finds taking old new k l mid found result (defined (text_bytes old n.text))
+      → Finds taking old new k l first found result (walk_stmt s)
+  unfolding walk_stmt
+  let_finds old new k l first mid found (Err e) s n at is uses finds sets knows = tt
+  let_finds old new k l first mid found (Ok x) s n at is uses finds sets knows =
+      let one = finds sets knows in
+      let line = (line_seen kind.Let old n is s at).3 in
+      rw line (one.0, taking.both _ _ (rw line at (uses sets knows)) one.1)
 
--- ---- Statements that show
+  -- ---- Statements that show
 
-pub show_finds : (m : Memory) (k : Known) (first found : List Finding) (result : Result (Unit {0}) AllocError) (s : Stmt) (n : Node)
-    → StmtAt s m n → (n.kind ≡ kind.Let → ⊥) → (n.kind ≡ kind.Block → ⊥)
-    → ((sets : List NameSet) → Knows m k sets → OnOk result (found ≡ first ++ undefined sets (stmt_names s)))
-    → Finds m m k k first found result (walk_stmt s)
-unfolding walk_stmt
-show_finds m k first found result (Let name e) n at no-let no-block uses sets knows = absurd (no-let at.0)
-show_finds m k first found (Err e') (Show e) n at no-let no-block uses sets knows = tt
-show_finds m k first found (Ok x) (Show e) n at no-let no-block uses sets knows = (knows, uses sets knows)
-show_finds m k first found result (tree.Block body) n at no-let no-block uses sets knows = absurd (no-block at.0)
+  pub show_finds : (m : Memory) (k : Known) (first found : F) (result : Result (Unit {0}) AllocError) (s : Stmt) (n : Node)
+      → StmtAt s m n → (n.kind ≡ kind.Let → ⊥) → (n.kind ≡ kind.Block → ⊥)
+      → ((sets : List NameSet) → Knows m k sets → OnOk result (taking.gains first found (undefined sets (stmt_names s))))
+      → Finds taking m m k k first found result (walk_stmt s)
+  unfolding walk_stmt
+  show_finds m k first found result (Let name e) n at no-let no-block uses sets knows = absurd (no-let at.0)
+  show_finds m k first found (Err e') (Show e) n at no-let no-block uses sets knows = tt
+  show_finds m k first found (Ok x) (Show e) n at no-let no-block uses sets knows = (knows, uses sets knows)
+  show_finds m k first found result (tree.Block body) n at no-let no-block uses sets knows = absurd (no-block at.0)
 
 -- ---- Trees are unchanged
 

@@ -16,12 +16,12 @@ use Rattle.tree_rules.specs.Trees.{Stmt, Stmts, NoStmts, Then}
 use Rattle.tree_rules.specs.Trees as tree
 use Rattle.tree_rules.specs.Weights.{weight, weights}
 use Rattle.tree_rules.specs.Report.{NameSet, Walk, walk_stmt, walk}
-use Rattle.tree_rules.specs.declared.finding.Finding.{Finding}
 use Rattle.tree_rules.proofs.FindingLemmas.{walk_outer}
 use Rattle.tree_nodes.specs.declared.node.Node.{Node}
 use Rattle.arena_tree.specs.TreesAt.{node_item}
 use Rattle.arena_tree.specs.StmtsAt.{StmtAt, StmtsAt}
 use Rattle.arena_tree.proofs.Layers.{list_len}
+use Rattle.lint_reports.specs.Taking.{Taking}
 use Rattle.arena_lint.specs.Knowing.{Knows}
 use Rattle.arena_lint.specs.Rooms.{ListHasStmts}
 use Rattle.arena_lint.specs.Spending.{Takes}
@@ -34,24 +34,25 @@ moves_none {m} {k} held = record { held = held; frame = frame_reflexive m (all_b
 
 -- ---- Blocks
 
-pub block_finds : (old mid far new : Memory) (k l j i : Known) (first last : List Finding) (s : Stmt) (ss : Stmts) → s ≡ tree.Block ss
+pub block_finds : {F : Type 0} (taking : Taking F) (old mid far new : Memory) (k l j i : Known) (first last : F) (s : Stmt) (ss : Stmts)
+    → s ≡ tree.Block ss
     → ((sets : List NameSet) → Knows old k sets → Knows mid l ([] ∷ sets) × IsNotEmpty sets)
-    → Finds mid far l j first last (Ok tt) (walk ss)
+    → Finds taking mid far l j first last (Ok tt) (walk ss)
     → ((names : NameSet) (sets : List NameSet) → Knows far j (names ∷ sets) → IsNotEmpty sets → Knows new i sets)
-    → Finds old new k i first last (Ok tt) (walk_stmt s)
+    → Finds taking old new k i first last (Ok tt) (walk_stmt s)
 unfolding walk_stmt
-block_finds old mid far new k l j i first last s ss is enters finds leaves sets knows =
+block_finds taking old mid far new k l j i first last s ss is enters finds leaves sets knows =
     let begun = enters sets knows in
     let body = finds ([] ∷ sets) begun.0 in
     let outer = walk_outer ss [] sets in
     let ended : Knows new i sets = leaves outer.names sets (subst (Knows far j) outer.known body.0) begun.1 in
-    subst (λ (t : Stmt). Knows new i (walk_stmt t sets).known × (last ≡ first ++ (walk_stmt t sets).findings)) (sym is) (ended, body.1)
+    subst (λ (t : Stmt). Knows new i (walk_stmt t sets).known × taking.gains first last (walk_stmt t sets).findings) (sym is) (ended, body.1)
 
 -- ---- All statements
 
-pub walking_begin : {a : View} {k : Known} {first : List Finding} {ns : List Node} → AreNames a.memory k
-    → Walking a a k k first first ns 0
-walking_begin {a} {k} held = record {
+pub walking_begin : {F : Type 0} (taking : Taking F) {a : View} {k : Known} {first : F} {ns : List Node} → AreNames a.memory k
+    → Walking taking a a k k first first ns 0
+walking_begin taking {a} {k} {first} held = record {
   moves = moves_none held;
   behind = λ ss at. record {
     left = ss;
@@ -59,7 +60,13 @@ walking_begin {a} {k} held = record {
     spent = 0;
     all = omega arith;
     takes = takes_exhausted a k None tt;
-    halfway = λ sets knows. record { between = sets; knows = knows; all = refl };
+    halfway = λ sets knows. record {
+      between = sets;
+      knows = knows;
+      taken = [];
+      gained = taking.none first;
+      all = refl;
+    };
   };
 }
 
@@ -79,30 +86,32 @@ none_left : (left : Stmts) (m : Memory) → StmtsAt left m [] → left ≡ NoStm
 none_left NoStmts m at = refl
 none_left (Then s left) m at = absurd at
 
-halfway_next : {now new : Memory} {l j : Known} {first before after : List Finding} {ss left rest : Stmts} {sets : List NameSet} (s : Stmt)
-    → left ≡ Then s rest → Finds now new l j before after (Ok tt) (walk_stmt s) → Halfway now l first before ss left sets
-    → Halfway new j first after ss rest sets
-unfolding walk walk_stmt
-halfway_next {before = before} {rest = rest} s is finds half =
-    let one = finds half.between half.knows in
-    let mid = walk_stmt s half.between in
-    let more = walk rest mid.known in record {
-      between = mid.known;
-      knows = one.0;
-      all = rw (one.1, append_assoc before mid.findings more.findings) (rw is at half.all);
-    }
+module _ {F : Type 0} (taking : Taking F) {now : Memory} {l : Known} {first before : F} {ss left : Stmts} {sets : List NameSet}
+    (half : Halfway taking now l first before ss left sets) where
+  halfway_next : {new : Memory} {j : Known} {after : F} {rest : Stmts} (s : Stmt) → left ≡ Then s rest
+      → Finds taking now new l j before after (Ok tt) (walk_stmt s) → Halfway taking new j first after ss rest sets
+  unfolding walk walk_stmt
+  halfway_next {rest = rest} s is finds =
+      let one = finds half.between half.knows in
+      let mid = walk_stmt s half.between in
+      let more = walk rest mid.known in record {
+        between = mid.known;
+        knows = one.0;
+        taken = half.taken ++ mid.findings;
+        gained = taking.both half.taken mid.findings half.gained one.1;
+        all = rw (append_assoc half.taken mid.findings more.findings) (rw is at half.all);
+      }
 
-halfway_end : {now : Memory} {l : Known} {first before : List Finding} {ss left : Stmts} {sets : List NameSet} → left ≡ NoStmts
-    → Halfway now l first before ss left sets → Knows now l (walk ss sets).known × (before ≡ first ++ (walk ss sets).findings)
-unfolding walk
-halfway_end {now} {l} {first} {before} {ss} {left} {sets} none half =
-    let all = rw none at half.all in (
-      subst (Knows now l) (ap (λ (w : Walk). w.known) all) half.knows,
-      sym (append-nil before) ∙ ap (λ (w : Walk). w.findings) all,
-    )
+  halfway_end : left ≡ NoStmts → Knows now l (walk ss sets).known × taking.gains first before (walk ss sets).findings
+  unfolding walk
+  halfway_end none =
+      let all = rw none at half.all in (
+        subst (Knows now l) (ap (λ (w : Walk). w.known) all) half.knows,
+        subst (taking.gains first before) (sym (append-nil half.taken) ∙ ap (λ (w : Walk). w.findings) all) half.gained,
+      )
 
-module _ {old now : View} {k l : Known} {first before : List Finding} (v : Vec Node) {i : ℕ}
-    (walking : Walking old now k l first before (vec_list node_item old.memory v) i) where
+module _ {F : Type 0} (taking : Taking F) {old now : View} {k l : Known} {first before : F} (v : Vec Node) {i : ℕ}
+    (walking : Walking taking old now k l first before (vec_list node_item old.memory v) i) where
   module _ {room : ℕ} {n : Node} (has : ListHasStmts old.memory v room (all_blocks old.memory k))
       (is : slice_get (vec_list node_item now.memory v) i ≡ Some n) where
     -- The list has the nodes that it had, and they still represent the same.
@@ -129,10 +138,10 @@ module _ {old now : View} {k l : Known} {first before : List Finding} (v : Vec N
           (takes_then behind.takes (takes one.stmt (stands one.stmt one.stands)))
 
       -- One more statement is walked over.
-      pub walking_next : {after : List Finding} → Moves now.memory new.memory l j
-          → ((s : Stmt) → StmtAt s now.memory n → Finds now.memory new.memory l j before after (Ok tt) (walk_stmt s))
+      pub walking_next : {after : F} → Moves now.memory new.memory l j
+          → ((s : Stmt) → StmtAt s now.memory n → Finds taking now.memory new.memory l j before after (Ok tt) (walk_stmt s))
           → ((s : Stmt) → StmtAt s now.memory n → Takes (weight s) now new l j None)
-          → Walking old new k j first after (vec_list node_item old.memory v) (i + 1)
+          → Walking taking old new k j first after (vec_list node_item old.memory v) (i + 1)
       walking_next moves finds takes = record {
         moves = moves_then walking.moves moves;
         behind = λ ss at. let one = line ss at in let behind = walking.behind ss at in record {
@@ -142,7 +151,7 @@ module _ {old now : View} {k l : Known} {first before : List Finding} (v : Vec N
           all = omega (arith, behind.all, ap weights one.is);
           takes = takes_then behind.takes (takes one.stmt (stands one.stmt one.stands));
           halfway = λ sets knows.
-              halfway_next one.stmt one.is (finds one.stmt (stands one.stmt one.stands)) (behind.halfway sets knows);
+              halfway_next taking (behind.halfway sets knows) one.stmt one.is (finds one.stmt (stands one.stmt one.stands));
         };
       }
 
@@ -153,8 +162,8 @@ module _ {old now : View} {k l : Known} {first before : List Finding} (v : Vec N
         (drop_all i (vec_list node_item old.memory v) (omega (arith, last, list_len old.memory v))) behind.stand)
 
     pub walking_end : (sets : List NameSet) → Knows old.memory k sets
-        → Knows now.memory l (walk ss sets).known × (before ≡ first ++ (walk ss sets).findings)
-    walking_end sets knows = halfway_end all_behind ((walking.behind ss at).halfway sets knows)
+        → Knows now.memory l (walk ss sets).known × taking.gains first before (walk ss sets).findings
+    walking_end sets knows = halfway_end taking ((walking.behind ss at).halfway sets knows) all_behind
 
     pub walked_takes : Takes (weights ss) old now k l None
     walked_takes = let behind = walking.behind ss at in takes_more (weights ss) (omega (arith, behind.all)) behind.takes

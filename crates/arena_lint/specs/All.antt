@@ -8,7 +8,7 @@ use Rattle.arena_workers.specs.Working.{Terms}
 use Rattle.arena_workers.specs.Starving.{IsTooSmall, ShowsStarved}
 use Rattle.arena_workers.specs.declared.served.Served.{Served}
 use Rattle.arena_lint.specs.declared.parts.Linted.{Linted}
-use Rattle.lint_reports.specs.Reports.{Reports, said}
+use Rattle.lint_reports.specs.Reports.{Reports, said, report_text}
 use Rattle.lint_reports.specs.declared.report.FileReport.{FileReport}
 use Rattle.lint_reports.specs.declared.report.FileReport.TheVariants.{Checked, Syntax, TooDeep, NumberTooBig, Full, Refused, OutOfMemory}
 use Rattle.arena_lint.specs.Linting.{Lints, lint_bytes}
@@ -32,6 +32,13 @@ is_refused (NumberTooBig at) = false
 is_refused Full = false
 is_refused Refused = true
 is_refused OutOfMemory = false
+
+-- This is the text of such a report of source number i, and whether it says that an arena refused.
+pub record IsTextOf (i : ℕ) (Is : FileReport → Type 0) (text : List ℕ) (refused : Bool) : Type 0 where
+  pub report : FileReport
+  pub is : Is report
+  pub same_text : text ≡ report_text i report
+  pub same_refused : refused ≡ is_refused report
 
 -- the result of a text as work
 abbrev pub linted : {C : Type 0} → Served FileReport C → Linted C

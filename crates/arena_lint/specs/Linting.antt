@@ -11,9 +11,11 @@ use Rattle.arena_tree.specs.Parsing.{IsProgramText}
 use Rattle.arena_tree.specs.Spending.{KeepsKind}
 use Rattle.arena_tree.specs.declared.tree.TreeErr.{TreeErr}
 use Rattle.arena_tree.specs.declared.tree.TreeErr.TheVariants as tree
+use Rattle.tree_rules.specs.declared.finding.Finding.{Finding}
+use Rattle.lint_reports.specs.Taking.{Taking}
 use Rattle.lint_reports.specs.Reports.{Reports, said}
 use Rattle.lint_reports.specs.declared.report.FileReport.{FileReport}
-use Rattle.lint_reports.specs.declared.report.FileReport.TheVariants.{Syntax, TooDeep, NumberTooBig, Full, Refused, OutOfMemory}
+use Rattle.lint_reports.specs.declared.report.FileReport.TheVariants.{Checked, Syntax, TooDeep, NumberTooBig, Full, Refused, OutOfMemory}
 
 -- the most bytes of the arena that the report of a text takes
 abbrev pub lint_bytes : ℕ → ℕ
@@ -37,6 +39,12 @@ pub record Lints (bytes : List ℕ) (old new : View) (report : FileReport) : Typ
   pub refused : report ≡ Refused
       → IsStarvedWithin (lint_bytes (length bytes)) old.memory.state new.memory.state old.source new.source
   pub kind : KeepsKind old.memory new.memory
+
+-- A text is a program, whose findings were taken.
+pub record Checks {F : Type 0} (taking : Taking F) (bytes : List ℕ) (old new : View) (first found : F) : Type 0 where
+  pub findings : List Finding
+  pub gained : taking.gains first found findings
+  pub lints : Lints bytes old new (Checked findings)
 
 -- the report where a block had no place, by whether the arena grows
 abbrev pub no_place : Bool → FileReport

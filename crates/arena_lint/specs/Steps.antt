@@ -15,41 +15,51 @@ use Rattle.tree_rules.specs.declared.finding.Finding.{Finding}
 use Rattle.arena_tree.specs.TreesAt.{node_item, ExprsAt}
 use Rattle.arena_tree.specs.StmtsAt.{StmtAt, StmtsAt}
 use Rattle.tree_nodes.specs.declared.node.Node.{Node}
+use Rattle.lint_reports.specs.Taking.{Taking}
 use Rattle.arena_lint.specs.Knowing.{Knows}
 use Rattle.arena_lint.specs.Spending.{Takes}
 
--- Some expressions are done: these nodes represent those that are left, and what was found and what is found of them is
+-- Some expressions are done: these nodes represent those that are left, and what was taken and what is found of them is
 -- all.
-pub record Left (m : Memory) (ns : List Node) (sets : List NameSet) (found all : List Finding) : Type 0 where
+pub record Left {F : Type 0} (taking : Taking F) (m : Memory) (ns : List Node) (sets : List NameSet) (first found : F)
+    (all : List Finding) : Type 0 where
   pub exprs : Exprs
   pub stand : ExprsAt exprs m ns
-  pub all_is : found ++ undefined sets (all_names exprs) ≡ all
+  pub taken : List Finding
+  pub gained : taking.gains first found taken
+  pub all_is : taken ++ undefined sets (all_names exprs) ≡ all
 
--- The findings are those of a walk, and so is what is known after it.
-abbrev pub Finds : Memory → Memory → Known → Known → List Finding → List Finding → Result (Unit {0}) AllocError → (List NameSet
-    → Walk) → Type 0
-Finds old new k l first found result walked =
-    (sets : List NameSet) → Knows old k sets → OnOk result (Knows new l (walked sets).known × (found ≡ first ++ (walked sets).findings))
+-- The findings of a walk were taken, and its names are known after it.
+abbrev pub Finds : {F : Type 0} → Taking F → Memory → Memory → Known → Known → F → F → Result (Unit {0}) AllocError
+    → (List NameSet → Walk) → Type 0
+Finds taking old new k l first found result walked =
+    (sets : List NameSet) → Knows old k sets
+    → OnOk result (Knows new l (walked sets).known × taking.gains first found (walked sets).findings)
 
 -- Some statements are done: from what is known there, a walk over those that are left ends as one over all.
-pub record Halfway (new : Memory) (l : Known) (first found : List Finding) (ss left : Stmts) (sets : List NameSet) : Type 0 where
+pub record Halfway {F : Type 0} (taking : Taking F) (new : Memory) (l : Known) (first found : F) (ss left : Stmts) (sets : List NameSet)
+    : Type 0 where
   pub between : List NameSet
   pub knows : Knows new l between
-  pub all : found_first found (walk left between) ≡ found_first first (walk ss sets)
+  pub taken : List Finding
+  pub gained : taking.gains first found taken
+  pub all : found_first taken (walk left between) ≡ walk ss sets
 
 -- What the statements that are done have taken, and where a walk over all is halfway. These nodes represented those
 -- that are left.
-pub record Behind (old new : View) (k l : Known) (first found : List Finding) (ns : List Node) (ss : Stmts) : Type 0 where
+pub record Behind {F : Type 0} (taking : Taking F) (old new : View) (k l : Known) (first found : F) (ns : List Node) (ss : Stmts)
+    : Type 0 where
   pub left : Stmts
   pub stand : StmtsAt left old.memory ns
   pub spent : ℕ
   pub all : spent + weights left ≡ weights ss
   pub takes : Takes spent old new k l None
-  pub halfway : (sets : List NameSet) → Knows old.memory k sets → Halfway new.memory l first found ss left sets
+  pub halfway : (sets : List NameSet) → Knows old.memory k sets → Halfway taking new.memory l first found ss left sets
 
-pub record Walking (old new : View) (k l : Known) (first found : List Finding) (ns : List Node) (i : ℕ) : Type 0 where
+pub record Walking {F : Type 0} (taking : Taking F) (old new : View) (k l : Known) (first found : F) (ns : List Node) (i : ℕ)
+    : Type 0 where
   pub moves : Moves old.memory new.memory k l
-  pub behind : (ss : Stmts) → StmtsAt ss old.memory ns → Behind old new k l first found (drop i ns) ss
+  pub behind : (ss : Stmts) → StmtsAt ss old.memory ns → Behind taking old new k l first found (drop i ns) ss
 
 -- there is a set
 abbrev pub IsNotEmpty : List NameSet → Type 0

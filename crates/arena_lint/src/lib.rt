@@ -10,7 +10,7 @@ mod walk;
 
 pub use all::lint_all;
 pub use arena_workers::{Gate, NoGate, Starved};
-pub use lint::lint_one;
+pub use lint::{lint_one, lint_text};
 pub use lint_reports::{FileReport, FindKind, Finding, Findings, Source};
 pub use parts::{LintErr, Linted, Linting, lint_parts};
 pub use two::lint_two;

@@ -1,21 +1,24 @@
 // The report of one text.
-ghost use Rattle.std.specs.Prelude.{◌≡◌, ◌+◌, ◌*◌, ◌^◌, ◌≤◌, length, IfOk};
+ghost use Rattle.std.specs.Prelude.{◌≡◌, ◌+◌, ◌*◌, ◌^◌, ◌≤◌, [], length, IfOk, IfErr, OnOk};
 ghost use Rattle.arena_items.specs.Costs.{used};
 ghost use Rattle.arena_tree.specs.Given.{Means};
 ghost use Rattle.arena_tree.specs.Spending.{error_of};
+ghost use Rattle.lint_reports.specs.Reports.{report_text};
 ghost use Rattle.tree_rules.specs.Report.{findings_of};
 ghost use Rattle.tree_rules.specs.Trees.{Stmts};
 ghost use Rattle.tree_rules.specs.Weights.{weights};
-ghost use Rattle.arena_lint.specs.Linting.{Lints, no_place, unparsed_by};
+ghost use Rattle.arena_lint.specs.All.{IsTextOf};
+ghost use Rattle.arena_lint.specs.Linting.{Lints, Checks, no_place, unparsed_by};
 ghost use Rattle.arena_lint.specs.Rooms.{IsLight};
 ghost use Rattle.arena_lint.specs.Spending.{Spends, walk_asks, walk_bytes};
 
 use crate::walk::walk;
 use arena_chunks::{Allocator, ChunkSource};
 use arena_items::{AllocError, Grown};
+use arena_rules::OutOfMemory;
 use arena_symbols::Names;
 use arena_tree::{Tree, TreeErr};
-use lint_reports::{FileReport, Findings};
+use lint_reports::{FileReport, Findings, TakesFindings, put_report};
 use std::alloc::Global;
 use tree_rules::laws::tree_weight;
 
@@ -43,18 +46,49 @@ fn unparsed<C: ChunkSource>(a: &Allocator<C>, why: TreeErr) -> FileReport
     }
 }
 
-// The findings in a tree.
-fn findings<C: ChunkSource>(alloc: Global, a: &mut Allocator<C>, tree: Tree) -> Grown<Findings>
+// Gives the findings in a tree to what takes them.
+fn give_findings<C: ChunkSource, F: TakesFindings>(
+    alloc: Global,
+    a: &mut Allocator<C>,
+    tree: Tree,
+    found: &mut F,
+) -> Grown<()>
     requires { IsLight a.old.memory tree }
-    ensures found { (trees : Stmts) → Means a.old.memory tree trees → IfOk result (λ found. found ≡ findings_of trees) }
+    ensures gains { (trees : Stmts) → Means a.old.memory tree trees
+        → OnOk result (F.taking.gains found.old found.new (findings_of trees)) }
     ensures spends { (trees : Stmts) → Means a.old.memory tree trees
         → Spends (walk_asks (1 + 2 * weights trees)) (walk_bytes (weights trees)) 0 0 a.old a.new (error_of result) }
 {
     let room = a.used_bytes();
     let mut known = Names::new_in();
-    let mut found = Findings::new(alloc);
-    walk(alloc, a, &mut known, tree.stmts, room, &mut found)?;
-    Ok(found)
+    walk(alloc, a, &mut known, tree.stmts, room, found)
+}
+
+// Gives the findings in a text to what takes them. Returns its report where that isn't `Checked`; what was given then is
+// of no use.
+fn lint_with<C: ChunkSource, F: TakesFindings>(
+    alloc: Global,
+    a: &mut Allocator<C>,
+    src: &[u8],
+    found: &mut F,
+) -> Result<(), FileReport>
+    requires unused { used a.old ≡ 0 }
+    requires small { length src.now ≤ 2 ^ 24 }
+    ensures checked { OnOk result (Checks F.taking src.now a.old a.new found.old found.new) }
+    ensures other { IfErr result (Lints src.now a.old a.new) }
+{
+    tree_weight();
+    let tree = match Tree::parse_in_one_pass(a, src) {
+        Ok(tree) => tree,
+        Err(why) => return Err(unparsed(a, why)),
+    };
+    match give_findings(alloc, a, tree, found) {
+        Ok(()) => Ok(()),
+        Err(AllocError::AllocErr { .. }) => Err(no_place(a)),
+        Err(AllocError::OutOfMemory) => Err(FileReport::OutOfMemory),
+        // A walk never needs more numbers than there are.
+        Err(AllocError::CapacityOverflow) => unreachable!(),
+    }
 }
 
 /// Returns the report of a text of at most 16,777,216 bytes. Its tree, its names and their scopes are placed in the
@@ -71,16 +105,61 @@ pub fn lint_one<C: ChunkSource>(alloc: Global, a: &mut Allocator<C>, src: &[u8])
     requires small { length src.now ≤ 2 ^ 24 }
     ensures { Lints src.now a.old a.new result }
 {
+    let mut found = Findings::new(alloc);
+    match lint_with(alloc, a, src, &mut found) {
+        Ok(()) => FileReport::Checked(found),
+        Err(report) => report,
+    }
+}
+
+// The report of a text for whose findings there is no memory.
+fn without_findings<C: ChunkSource>(a: &mut Allocator<C>, src: &[u8]) -> FileReport
+    requires unused { used a.old ≡ 0 }
+    requires small { length src.now ≤ 2 ^ 24 }
+    ensures { Lints src.now a.old a.new result }
+{
     tree_weight();
-    let tree = match Tree::parse_in_one_pass(a, src) {
-        Ok(tree) => tree,
-        Err(why) => return unparsed(a, why),
+    match Tree::parse_in_one_pass(a, src) {
+        Ok(_) => FileReport::OutOfMemory,
+        Err(why) => unparsed(a, why),
+    }
+}
+
+// The text of a report of no findings, with room for as many bytes as the source has.
+fn begin_text(alloc: Global, src: &[u8], i: u64) -> Result<Vec<u8>, OutOfMemory>
+    ensures { IfOk result (λ text. text.items ≡ report_text i (FileReport.Checked [])) }
+{
+    let mut text = Vec::with_capacity(alloc, src.len())?;
+    put_report(&mut text, i, &FileReport::Checked(Findings::new(alloc)))?;
+    Ok(text)
+}
+
+/// Does what `lint_one` does, for source number `i`, but returns the text of the report, and whether it is `Refused`.
+/// The findings go straight into the text.
+///
+/// # Errors
+///
+/// The report, where there is no memory for its text.
+pub fn lint_text<C: ChunkSource>(
+    alloc: Global,
+    a: &mut Allocator<C>,
+    src: &[u8],
+    i: u64,
+) -> Result<(Vec<u8>, bool), FileReport>
+    requires unused { used a.old ≡ 0 }
+    requires small { length src.now ≤ 2 ^ 24 }
+    ensures text { IfOk result (λ told. IsTextOf i (Lints src.now a.old a.new) told.0.items told.1) }
+    ensures report { IfErr result (Lints src.now a.old a.new) }
+{
+    let Ok(mut text) = begin_text(alloc, src, i) else {
+        return Err(without_findings(a, src));
     };
-    match findings(alloc, a, tree) {
-        Ok(found) => FileReport::Checked(found),
-        Err(AllocError::AllocErr { .. }) => no_place(a),
-        Err(AllocError::OutOfMemory) => FileReport::OutOfMemory,
-        // A walk never needs more numbers than there are.
-        Err(AllocError::CapacityOverflow) => unreachable!(),
+    let Err(report) = lint_with(alloc, a, src, &mut text) else {
+        return Ok((text, false));
+    };
+    text.clear();
+    match put_report(&mut text, i, &report) {
+        Ok(()) => Ok((text, matches!(report, FileReport::Refused))),
+        Err(_) => Err(report),
     }
 }

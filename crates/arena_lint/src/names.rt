@@ -1,5 +1,5 @@
 // The names of an expression that aren't defined.
-ghost use Rattle.std.specs.Prelude.{◌≡◌, ◌≢◌, ◌-◌, ◌<◌, ◌≤◌, [], ◌∷◌, ◌++◌, List, OnOk, Some, slice_get};
+ghost use Rattle.std.specs.Prelude.{◌≡◌, ◌≢◌, ◌-◌, ◌<◌, ◌≤◌, [], ◌∷◌, List, OnOk, Some, slice_get};
 ghost use Rattle.std.specs.Str.{IsUtf8};
 ghost use Rattle.arena_items.specs.Values.{IsTextIn, text_bytes};
 ghost use Rattle.arena_vec.specs.Vecs.{vec_list};
@@ -14,8 +14,7 @@ use arena_chunks::{Allocator, ChunkSource, Str};
 use arena_rules::OutOfMemory;
 use arena_tree::{Kind, Node, kids};
 use arena_vec::Vec;
-use call_rules::Bytes;
-use lint_reports::{FindKind, Findings};
+use lint_reports::{FindKind, TakesFindings};
 use std::alloc::Global;
 use std::str;
 
@@ -31,26 +30,25 @@ fn is_defined<C: ChunkSource>(a: &Allocator<C>, known: &Known, name: &str) -> bo
     known.resolve(a, name).is_some()
 }
 
-// Adds a finding if the name isn't defined.
-fn use_name<C: ChunkSource>(
+// Gives a finding if the name isn't defined.
+fn use_name<C: ChunkSource, F: TakesFindings>(
     alloc: Global,
     a: &Allocator<C>,
     known: &Known,
     text: Str,
-    found: &mut Findings,
+    found: &mut F,
 ) -> Result<(), OutOfMemory>
     requires held { AreNames a.now.memory known.now }
     requires text { IsTextIn a.now.memory text }
     requires utf8 { IsUtf8 (text_bytes a.now.memory text) }
     ensures { (sets : List NameSet) → Knows a.now.memory known.now sets
-        → OnOk result (found.new ≡ found.old ++ undefined sets (text_bytes a.now.memory text ∷ [])) }
+        → OnOk result (F.taking.gains found.old found.new (undefined sets (text_bytes a.now.memory text ∷ []))) }
 {
     let name = unsafe { str::from_utf8_unchecked(a.read(text.block)) };
     if is_defined(a, known, name) {
         return Ok(());
     }
-    let copy = Bytes::of(alloc, name.as_bytes())?;
-    found.push(FindKind::Undefined, copy)
+    found.take(alloc, FindKind::Undefined, name.as_bytes())
 }
 
 // The list of the children of an expression that is neither a number nor a name. Only the contract uses the count.
@@ -77,18 +75,18 @@ fn kid<C: ChunkSource>(a: &Allocator<C>, list: Vec<Node>, i: u32, _room: u64) ->
 }
 
 #[cycle(names)]
-fn names_in<C: ChunkSource>(
+fn names_in<C: ChunkSource, F: TakesFindings>(
     alloc: Global,
     a: &Allocator<C>,
     known: &Known,
     node: Node,
     room: u64,
-    found: &mut Findings,
+    found: &mut F,
 ) -> Result<(), OutOfMemory>
     requires held { AreNames a.now.memory known.now }
     requires tree { HasExpr a.now.memory node room }
     ensures { (e : Expr) (sets : List NameSet) → ExprAt e a.now.memory node → Knows a.now.memory known.now sets
-        → OnOk result (found.new ≡ found.old ++ undefined sets (names_of e)) }
+        → OnOk result (F.taking.gains found.old found.new (undefined sets (names_of e))) }
 {
     match node.kind {
         Kind::Num => Ok(()),
@@ -101,18 +99,18 @@ fn names_in<C: ChunkSource>(
 }
 
 #[cycle(names)]
-pub(crate) fn all_names<C: ChunkSource>(
+pub(crate) fn all_names<C: ChunkSource, F: TakesFindings>(
     alloc: Global,
     a: &Allocator<C>,
     known: &Known,
     list: Vec<Node>,
     room: u64,
-    found: &mut Findings,
+    found: &mut F,
 ) -> Result<(), OutOfMemory>
     requires held { AreNames a.now.memory known.now }
     requires trees { ListHasExprs a.now.memory list room }
     ensures { (es : Exprs) (sets : List NameSet) → ExprsAt es a.now.memory (vec_list node_item a.now.memory list)
-        → Knows a.now.memory known.now sets → OnOk result (found.new ≡ found.old ++ undefined sets (all_names es)) }
+        → Knows a.now.memory known.now sets → OnOk result (F.taking.gains found.old found.new (undefined sets (all_names es))) }
 {
     'kids: for i in 0..list.len() {
         let next = kid(a, list, i, room);

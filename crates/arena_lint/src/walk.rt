@@ -1,5 +1,5 @@
 // Statements, one after another.
-ghost use Rattle.std.specs.Prelude.{◌≡◌, ◌≢◌, ◌+◌, ◌-◌, ◌^◌, ◌<◌, ◌≤◌, ◌∷◌, ◌++◌, length, List, Some, None, Ok, IfOk, OnOk, slice_get, if◌then◌else◌};
+ghost use Rattle.std.specs.Prelude.{◌≡◌, ◌≢◌, ◌+◌, ◌-◌, ◌^◌, ◌<◌, ◌≤◌, ◌∷◌, length, List, Some, None, Ok, IfOk, OnOk, slice_get, if◌then◌else◌};
 ghost use Rattle.std.specs.Str.{IsUtf8};
 ghost use Rattle.arena_items.specs.Values.{IsTextIn, text_bytes};
 ghost use Rattle.arena_vec.specs.Vecs.{vec_list};
@@ -22,7 +22,7 @@ use arena_rules::OutOfMemory;
 use arena_tree::{Kind, Node, kids};
 use arena_vec::Vec;
 use call_rules::Bytes;
-use lint_reports::{FindKind, Findings};
+use lint_reports::{FindKind, TakesFindings};
 use std::alloc::Global;
 use std::str;
 
@@ -71,31 +71,36 @@ fn finding(is_new: bool, is_seen: bool) -> Option<FindKind>
     }
 }
 
-// Adds a finding, if there is one.
-fn add(found: &mut Findings, kind: Option<FindKind>, name: Bytes) -> Grown<()>
-    ensures added { OnOk result (found.new ≡ found.old ++ found_of kind name) }
+// Gives a finding, if there is one.
+fn give<F: TakesFindings>(
+    alloc: Global,
+    found: &mut F,
+    kind: Option<FindKind>,
+    name: &[u8],
+) -> Grown<()>
+    ensures gains { OnOk result (F.taking.gains found.old found.new (found_of kind name.now)) }
     ensures exhausted { IsExhausted (error_of result) }
 {
     match kind {
-        Some(kind) => exhausted(found.push(kind, name)),
+        Some(kind) => exhausted(found.take(alloc, kind, name)),
         None => Ok(()),
     }
 }
 
 // Walks over a definition in the tree.
-fn define<C: ChunkSource>(
+fn define<C: ChunkSource, F: TakesFindings>(
     alloc: Global,
     a: &mut Allocator<C>,
     known: &mut Known,
     text: Str,
-    found: &mut Findings,
+    found: &mut F,
 ) -> Grown<()>
     requires known { AreNames a.old.memory known.old }
     requires held { IsTextIn a.old.memory text }
     requires utf8 { IsUtf8 (text_bytes a.old.memory text) }
     requires short { length (text_bytes a.old.memory text) < 2 ^ 32 }
     ensures moves { Moves a.old.memory a.new.memory known.old known.new }
-    ensures finds { Finds a.old.memory a.new.memory known.old known.new found.old found.new result
+    ensures finds { Finds F.taking a.old.memory a.new.memory known.old known.new found.old found.new result
         (defined (text_bytes a.old.memory text)) }
     ensures takes { Takes (1 + length (text_bytes a.old.memory text)) a.old a.new known.old known.new (error_of result) }
 {
@@ -105,23 +110,23 @@ fn define<C: ChunkSource>(
     };
     let spelled = unsafe { str::from_utf8_unchecked(name.as_slice()) };
     let kind = define_name(a, known, spelled)?;
-    add(found, kind, name)
+    give(alloc, found, kind, name.as_slice())
 }
 
 // Uses the names of a statement that is no block.
-fn use_names<C: ChunkSource>(
+fn use_names<C: ChunkSource, F: TakesFindings>(
     alloc: Global,
     a: &Allocator<C>,
     known: &Known,
     node: Node,
     room: u64,
-    found: &mut Findings,
+    found: &mut F,
 ) -> Grown<()>
     requires known { AreNames a.now.memory known.now }
     requires tree { HasStmt a.now.memory node room (all_blocks a.now.memory known.now) }
     requires kind { node.kind ≢ Kind.Block }
     ensures finds { (s : Stmt) (sets : List NameSet) → StmtAt s a.now.memory node → Knows a.now.memory known.now sets
-        → OnOk result (found.new ≡ found.old ++ undefined sets (stmt_names s)) }
+        → OnOk result (F.taking.gains found.old found.new (undefined sets (stmt_names s))) }
     ensures exhausted { IsExhausted (error_of result) }
 {
     let list = stmt_kids(a, known, node, room);
@@ -139,20 +144,20 @@ fn stmt_kids<C: ChunkSource>(a: &Allocator<C>, _known: &Known, node: Node, _room
     kids(a, node)
 }
 
-fn let_line<C: ChunkSource>(
+fn let_line<C: ChunkSource, F: TakesFindings>(
     alloc: Global,
     a: &mut Allocator<C>,
     known: &mut Known,
     node: Node,
     room: u64,
-    found: &mut Findings,
+    found: &mut F,
 ) -> Grown<()>
     requires known { AreNames a.old.memory known.old }
     requires tree { HasStmt a.old.memory node room (all_blocks a.old.memory known.old) }
     requires kind { node.kind ≡ Kind.Let }
     ensures moves { Moves a.old.memory a.new.memory known.old known.new }
     ensures finds { (s : Stmt) → StmtAt s a.old.memory node
-        → Finds a.old.memory a.new.memory known.old known.new found.old found.new result (walk_stmt s) }
+        → Finds F.taking a.old.memory a.new.memory known.old known.new found.old found.new result (walk_stmt s) }
     ensures takes { (s : Stmt) → StmtAt s a.old.memory node
         → Takes (weight s) a.old a.new known.old known.new (error_of result) }
 {
@@ -208,19 +213,19 @@ fn stmt<C: ChunkSource>(
 }
 
 #[cycle(walk)]
-fn walk_stmt<C: ChunkSource>(
+fn walk_stmt<C: ChunkSource, F: TakesFindings>(
     alloc: Global,
     a: &mut Allocator<C>,
     known: &mut Known,
     node: Node,
     room: u64,
-    found: &mut Findings,
+    found: &mut F,
 ) -> Grown<()>
     requires known { AreNames a.old.memory known.old }
     requires tree { HasStmt a.old.memory node room (all_blocks a.old.memory known.old) }
     ensures moves { Moves a.old.memory a.new.memory known.old known.new }
     ensures finds { (s : Stmt) → StmtAt s a.old.memory node
-        → Finds a.old.memory a.new.memory known.old known.new found.old found.new result (walk_stmt s) }
+        → Finds F.taking a.old.memory a.new.memory known.old known.new found.old found.new result (walk_stmt s) }
     ensures takes { (s : Stmt) → StmtAt s a.old.memory node
         → Takes (weight s) a.old a.new known.old known.new (error_of result) }
 {
@@ -237,19 +242,19 @@ fn walk_stmt<C: ChunkSource>(
 }
 
 #[cycle(walk)]
-pub(crate) fn walk<C: ChunkSource>(
+pub(crate) fn walk<C: ChunkSource, F: TakesFindings>(
     alloc: Global,
     a: &mut Allocator<C>,
     known: &mut Known,
     list: Vec<Node>,
     room: u64,
-    found: &mut Findings,
+    found: &mut F,
 ) -> Grown<()>
     requires known { AreNames a.old.memory known.old }
     requires trees { ListHasStmts a.old.memory list room (all_blocks a.old.memory known.old) }
     ensures moves { Moves a.old.memory a.new.memory known.old known.new }
     ensures finds { (ss : Stmts) → StmtsAt ss a.old.memory (vec_list node_item a.old.memory list)
-        → Finds a.old.memory a.new.memory known.old known.new found.old found.new result (walk ss) }
+        → Finds F.taking a.old.memory a.new.memory known.old known.new found.old found.new result (walk ss) }
     ensures takes { (ss : Stmts) → StmtsAt ss a.old.memory (vec_list node_item a.old.memory list)
         → Takes (weights ss) a.old a.new known.old known.new (error_of result) }
 {

@@ -7,11 +7,69 @@ ghost use Rattle.arena_program.specs.Told.{outcome_text, IsPrintout};
 use crate::printout::{Printout, join};
 use crate::told::{Tells, Told};
 use arena_chunks::{Allocator, ChunkSource, OutOfMemory};
+use arena_lint::{Linting, lint_text};
 use arena_pool::{AllocatorPool, ChunkMaker, PoolName};
+use arena_script::Job;
 use arena_workers::{NoGate, Work, run_all};
+use lint_reports::{FileReport, Source};
+use script_workers::Scripts;
 use std::alloc::Global;
 use std::sync::Wait;
 use std::thread::Threads;
+
+/// Work whose outcomes have texts, which a worker can leave in their place.
+pub trait Teller<C: ChunkSource>: Work<C>
+where
+    Self::Outcome: Tells,
+{
+    ghost use Rattle.std.specs.Prelude.{◌≡◌};
+    ghost use Rattle.arena_rules.specs.State.{used_bytes};
+    ghost use Rattle.arena_pool.specs.Kinds.{IsOfKind};
+    ghost use Rattle.arena_pool.specs.declared.kind.PoolKind.{PoolKind};
+    ghost use Rattle.arena_program.specs.Told.{IsLeft};
+
+    /// Does the work on a piece, as `run` does. Returns what is left of the outcome of the piece of this number.
+    fn tell(
+        &self,
+        alloc: Global,
+        a: &mut Allocator<C>,
+        i: u64,
+        piece: &Self::Piece,
+    ) -> Told<Self::Outcome>
+        requires unused { used_bytes a.old.memory.state ≡ 0 }
+        requires accepted { Self.terms.accepts piece.now }
+        ensures done { (outcome : Self.Outcome) × Self.terms.done piece.now a.old a.new outcome
+            × IsLeft Self.Outcome.text Self.terms.is_refused i outcome result }
+        ensures kind { (kind : PoolKind) → IsOfKind kind a.old.memory.state → IsOfKind kind a.new.memory.state }
+    {
+        let outcome = self.run(alloc, a, piece);
+        let refused = self.is_refused(&outcome);
+        let mut bytes = Vec::new(alloc);
+        match outcome.put(&mut bytes, i) {
+            Ok(()) => Told::Text { bytes, refused },
+            Err(_) => Told::Untold(outcome),
+        }
+    }
+}
+
+impl<'a, C: ChunkSource, J: Job<C> + Sync> Teller<C> for Scripts<'a, J> {}
+
+// The findings go straight into the text.
+impl<'a, C: ChunkSource> Teller<C> for Linting<'a> {
+    #[tactic(auto, using(arena_lint::proofs::AllLemmas::kind_kept))]
+    fn tell(
+        &self,
+        alloc: Global,
+        a: &mut Allocator<C>,
+        i: u64,
+        piece: &Source<'a>,
+    ) -> Told<FileReport> {
+        match lint_text(alloc, a, piece.as_slice(), i) {
+            Ok((bytes, refused)) => Told::Text { bytes, refused },
+            Err(report) => Told::Untold(report),
+        }
+    }
+}
 
 // Work on numbered pieces, of whose outcomes the worker leaves the text.
 #[derive(Drop)]
@@ -19,7 +77,7 @@ struct Telling<'a, W> {
     work: &'a W,
 }
 
-impl<'a, C: ChunkSource, W: Work<C>> Work<C> for Telling<'a, W>
+impl<'a, C: ChunkSource, W: Teller<C>> Work<C> for Telling<'a, W>
 where
     W::Outcome: Tells,
 {
@@ -37,13 +95,7 @@ where
         a: &mut Allocator<C>,
         piece: &(usize, W::Piece),
     ) -> Told<W::Outcome> {
-        let outcome = self.work.run(alloc, a, &piece.1);
-        let refused = self.work.is_refused(&outcome);
-        let mut bytes = Vec::new(alloc);
-        match outcome.put(&mut bytes, piece.0 as u64) {
-            Ok(()) => Told::Text { bytes, refused },
-            Err(_) => Told::Untold(outcome),
-        }
+        self.work.tell(alloc, a, piece.0 as u64, &piece.1)
     }
 
     fn unserved(&self, alloc: Global) -> Told<W::Outcome> {
@@ -75,7 +127,7 @@ pub fn tell_all<
     R: Threads + Wait + Sync,
     K: ChunkMaker + Drop + Send,
     L: PoolName + Send + Sync,
-    W: Work<K::Chunks> + Sync,
+    W: Teller<K::Chunks> + Sync,
 >(
     rt: &R,
     alloc: Global,

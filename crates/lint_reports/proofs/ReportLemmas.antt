@@ -9,6 +9,7 @@ use Rattle.tree_rules.specs.declared.finding.Finding.{Finding}
 use Rattle.lint_reports.specs.Reports.{finding_line, report_lines, report_text, source_lines, lines_from}
 use Rattle.lint_reports.specs.Room.{fed_finding}
 use Rattle.lint_reports.specs.declared.report.FileReport.{FileReport}
+use Rattle.lint_reports.specs.declared.report.FileReport.TheVariants.{Checked}
 
 -- ---- A line
 
@@ -27,6 +28,12 @@ only_line old new line put = put ∙ ap (λ xs. old ++ xs) (sym (append-nil (wit
 
 pub finding_lines : (findings : List Finding) → flat_map fed_finding findings ≡ flat_map with_feed (map finding_line findings)
 finding_lines findings = sym (flat_map-map with_feed finding_line findings)
+
+-- findings behind the text of a report of none
+pub findings_put : (i : ℕ) (findings : List Finding)
+    → report_text i (Checked []) ++ flat_map fed_finding findings ≡ report_text i (Checked findings)
+findings_put i findings = let source = with_feed (codes "source" ++ fields (i ∷ [])) in
+    append_assoc source [] (flat_map fed_finding findings) ∙ ap (λ xs. source ++ xs) (finding_lines findings)
 
 -- ---- Reports
 

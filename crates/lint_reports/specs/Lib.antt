@@ -1,3 +1,4 @@
 pub mod Reports
 pub mod Room
 pub mod Sources
+pub mod Taking

@@ -3,6 +3,7 @@ ghost use Rattle.std.specs.Prelude.{◌≡◌, ◌+◌, ◌^◌, ◌++◌, ◌�
 ghost use Rattle.std.specs.Option.{SomeIff};
 ghost use Rattle.std.specs.List.{flat_map};
 ghost use Rattle.call_rules.specs.Grammar.{fields, with_feed};
+ghost use Rattle.tree_rules.specs.Report.{finding};
 ghost use Rattle.lint_reports.specs.Reports.{report_lines, report_text, kind_word};
 ghost use Rattle.lint_reports.specs.Room.{finding_room, findings_room, fed_finding};
 
@@ -36,6 +37,18 @@ fn put_kind(out: &mut Vec<u8>, kind: FindKind)
     }
 }
 
+// Appends the line of a finding, with a line feed, for which there must be room: 11 bytes more than its name has.
+pub(crate) fn put_finding(out: &mut Vec<u8>, kind: FindKind, name: &[u8])
+    requires { vec_len out.old + (length name.now + 11) ≤ vec_capacity out.old }
+    ensures items { out.new.items ≡ out.old.items ++ fed_finding (finding kind name.now) }
+    ensures len { vec_len out.new ≤ vec_len out.old + (length name.now + 11) }
+    ensures capacity { vec_capacity out.old ≤ vec_capacity out.new }
+{
+    put_kind(out, kind);
+    put(out, name);
+    put(out, b"\n");
+}
+
 // Prints a finding as its line, with a line feed.
 struct FindingLine;
 
@@ -49,9 +62,7 @@ impl Printer<Finding> for FindingLine {
     }
 
     fn put(&self, out: &mut Vec<u8>, finding: &Finding) {
-        put_kind(out, finding.kind);
-        put(out, finding.name.as_slice());
-        put(out, b"\n");
+        put_finding(out, finding.kind, finding.name.as_slice());
     }
 }
 

@@ -1,18 +1,24 @@
-use Rattle.std.proofs.Common.{sym, refl, append-nil, arith}
+use Rattle.std.proofs.Common.{[], refl, arith}
 use Rattle.tree_nodes.specs.declared.node.Kind.TheVariants as kind
 use Rattle.arena_tree.proofs.Layers.{seen}
 use Rattle.arena_lint.proofs.NameLemmas.{name_at, kid_found, kids_found}
 use Rattle.arena_lint.proofs.names.+names.Goals as goal
 
 pub all_names-kids-init : goal.all_names-kids-init
-all_names-kids-init g t c es sets at knows = record { exprs = es; stand = at; all_is = refl }
+all_names-kids-init g t c es sets at knows = record {
+  exprs = es;
+  stand = at;
+  taken = [];
+  gained = g.F.TakesFindings.taking.none _;
+  all_is = refl;
+}
 
 pub all_names-kids-preserved : goal.all_names-kids-preserved
-all_names-kids-preserved g t c es sets at knows = kid_found _ c.kids.i c.kid-next.result c.kid-next.ensures.kid
+all_names-kids-preserved g t c es sets at knows = kid_found g.F.TakesFindings.taking _ c.kids.i c.kid-next.result c.kid-next.ensures.kid
     (λ e stands. c.in_ok-names_in.ensures e sets stands knows) (c.kids.invariant es sets at knows)
 
 pub all_names-returns : goal.all_names-returns
-all_names-returns g t c es sets at knows = kids_found c.args.list c.kids.i
+all_names-returns g t c es sets at knows = kids_found g.F.TakesFindings.taking c.args.list c.kids.i
     (omega (arith, c.kids-test.false, c.kids.auto.i-end, c.len-i-end.ensures)) (c.kids.invariant es sets at knows)
 
 pub names_in-use_name-requires-clause-text : goal.names_in-use_name-requires-clause-text
@@ -22,7 +28,7 @@ pub names_in-use_name-requires-clause-utf8 : goal.names_in-use_name-requires-cla
 names_in-use_name-requires-clause-utf8 g t c = (name_at c.requires.tree c.in-Name.is).1
 
 pub names_in-returns-in-Num : goal.names_in-returns-in-Num
-names_in-returns-in-Num g t c e sets at knows = rw (seen kind.Num c.args.a.now.memory c.args.node c.in-Num.is e at) (sym (append-nil _))
+names_in-returns-in-Num g t c e sets at knows = rw (seen kind.Num c.args.a.now.memory c.args.node c.in-Num.is e at) (g.F.TakesFindings.taking.none _)
 
 pub names_in-returns-in-Name : goal.names_in-returns-in-Name
 names_in-returns-in-Name g t c e sets at knows =

@@ -17,23 +17,23 @@ walk-returns-in_err-walk_stmt-clause-moves g t c = moves_then c.stmts.invariant.
 
 pub walk-returns-in_err-walk_stmt-clause-takes : goal.walk-returns-in_err-walk_stmt-clause-takes
 walk-returns-in_err-walk_stmt-clause-takes g t c ss at =
-    walking_takes c.args.list c.stmts.invariant c.requires.trees c.stmt-node.ensures.stmt ss at
+    walking_takes g.F.TakesFindings.taking c.args.list c.stmts.invariant c.requires.trees c.stmt-node.ensures.stmt ss at
     (λ s stands. err_takes c.from_residual.result c.from_residual.ensures (c.in_err-walk_stmt.ensures.takes s stands))
 
 pub walk-stmts-init : goal.walk-stmts-init
-walk-stmts-init g t c = walking_begin c.requires.known
+walk-stmts-init g t c = walking_begin g.F.TakesFindings.taking c.requires.known
 
 pub walk-stmts-preserved : goal.walk-stmts-preserved
-walk-stmts-preserved g t c = walking_next c.args.list c.stmts.invariant c.requires.trees c.stmt-node.ensures.stmt
+walk-stmts-preserved g t c = walking_next g.F.TakesFindings.taking c.args.list c.stmts.invariant c.requires.trees c.stmt-node.ensures.stmt
     c.walk_stmt.ensures.moves (λ s at sets knows. c.in_ok-walk_stmt.ensures.finds s at sets knows)
     (λ s at. c.in_ok-walk_stmt.ensures.takes s at)
 
 pub walk-returns-clause-finds : goal.walk-returns-clause-finds
-walk-returns-clause-finds g t c ss at sets knows = walking_end c.args.list c.stmts.invariant ss at
+walk-returns-clause-finds g t c ss at sets knows = walking_end g.F.TakesFindings.taking c.args.list c.stmts.invariant ss at
     (omega (arith, c.stmts-test.false, c.stmts.auto.i-end, c.len-i-end.ensures)) sets knows
 
 pub walk-returns-clause-takes : goal.walk-returns-clause-takes
-walk-returns-clause-takes g t c ss at = walked_takes c.args.list c.stmts.invariant ss at
+walk-returns-clause-takes g t c ss at = walked_takes g.F.TakesFindings.taking c.args.list c.stmts.invariant ss at
     (omega (arith, c.stmts-test.false, c.stmts.auto.i-end, c.len-i-end.ensures))
 
 pub walk_stmt-returns-in_err-walk-in-Block-clause-moves : goal.walk_stmt-returns-in_err-walk-in-Block-clause-moves
@@ -47,7 +47,7 @@ pub walk_stmt-returns-in_ok-walk-in-Block-clause-finds : goal.walk_stmt-returns-
 walk_stmt-returns-in_ok-walk-in-Block-clause-finds g t c s at sets knows =
     let enters = c.in_ok-list-in-Block.ensures.enters in
     let body = enters.body s at in
-    block_finds c.args.a.now.memory c.enter_block.new.a.memory c.walk.new.a.memory c.leave_block.new.a.memory c.args.known.now
+    block_finds g.F.TakesFindings.taking c.args.a.now.memory c.enter_block.new.a.memory c.walk.new.a.memory c.leave_block.new.a.memory c.args.known.now
     c.enter_block.new.known c.walk.new.known c.leave_block.new.known c.args.found.now c.walk.new.found s body.0 body.1 enters.knows
     (λ sets knows. c.in_ok-walk-in-Block.ensures.finds body.0 body.2 sets knows) c.leave_block.ensures.leaves sets knows
 
@@ -72,7 +72,7 @@ walk_stmt-returns-in_ok-walk-in-Block-clause-takes g t c s at =
 pub walk_stmt-returns-in_default : goal.walk_stmt-returns-in_default
 walk_stmt-returns-in_default g t c = record {
   moves = moves_none c.requires.known;
-  finds = λ s at. show_finds c.args.a.now.memory c.args.known.now c.args.found.now c.use_names.new.found c.use_names.result s c.args.node
-      at c.in_default.not-Let c.in_default.not-Block (λ sets knows. c.use_names.ensures.finds s sets at knows);
+  finds = λ s at. show_finds g.F.TakesFindings.taking c.args.a.now.memory c.args.known.now c.args.found.now c.use_names.new.found
+      c.use_names.result s c.args.node at c.in_default.not-Let c.in_default.not-Block (λ sets knows. c.use_names.ensures.finds s sets at knows);
   takes = λ s at. takes_exhausted c.args.a.now c.args.known.now (error_of c.use_names.result) c.use_names.ensures.exhausted;
 }

@@ -12,4 +12,4 @@ decreases-walk g l = 2 * l.room
 
 abbrev pub invariant-walk-stmts : goal.invariant-walk-stmts
 invariant-walk-stmts g l =
-    Walking l.fn.a l.a l.fn.known l.known l.fn.found l.found (vec_list node_item l.fn.a.memory l.list) l.i
+    Walking g.F.TakesFindings.taking l.fn.a l.a l.fn.known l.known l.fn.found l.found (vec_list node_item l.fn.a.memory l.list) l.i

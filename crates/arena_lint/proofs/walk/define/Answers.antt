@@ -13,4 +13,4 @@ pub returns-clause-takes : goal.returns-clause-takes
 returns-clause-takes g c =
     let is = c.from_utf8_unchecked-spelled.ensures ∙ c.as_slice.ensures ∙ c.in-Ok.ensures.value ∙ c.read.ensures in
     takes_more _ (omega (arith, ap (λ (t : List ℕ). length t) is)) (takes_then c.in_ok-kind.ensures.takes
-    (takes_exhausted {weight = 0} c.define_name.new.a c.define_name.new.known (error_of c.add.result) c.add.ensures.exhausted))
+    (takes_exhausted {weight = 0} c.define_name.new.a c.define_name.new.known (error_of c.give.result) c.give.ensures.exhausted))

@@ -16,9 +16,9 @@ define-requires-clause-short g c = (let_name c.requires.tree c.requires.kind).2
 
 pub returns-clause-finds : goal.returns-clause-finds
 returns-clause-finds g c s at =
-    let_finds c.args.a.now.memory c.define.new.a.memory c.args.known.now c.define.new.known c.args.found.now c.use_names.new.found
-    c.define.new.found c.define.result s c.args.node at c.requires.kind (λ sets knows. c.in_ok-use_names.ensures.finds s sets at knows)
-    c.define.ensures.finds
+    let_finds g.F.TakesFindings.taking c.args.a.now.memory c.define.new.a.memory c.args.known.now c.define.new.known c.args.found.now
+    c.use_names.new.found c.define.new.found c.define.result s c.args.node at c.requires.kind
+    (λ sets knows. c.in_ok-use_names.ensures.finds s sets at knows) c.define.ensures.finds
 
 pub returns-in_err-use_names-clause-takes : goal.returns-in_err-use_names-clause-takes
 returns-in_err-use_names-clause-takes g c s at = err_takes c.from_residual.result c.from_residual.ensures

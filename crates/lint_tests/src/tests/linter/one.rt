@@ -1,8 +1,8 @@
 // Tests of texts, each of which is linted alone in an arena.
 use super::super::reports::reported;
-use super::super::{ample, fixed};
+use super::super::{ample, fixed, same_at};
 use arena_chunks::{Allocator, MemoryChunks};
-use arena_lint::lint_one;
+use arena_lint::{lint_one, lint_text};
 use std::alloc::Global;
 use std::process::Abort;
 
@@ -50,6 +50,11 @@ fn linted(
     assert!(rt; a.used_bytes() == 0 && text.len() <= 1 << 24);
     let report = lint_one(alloc, a, text);
     reported(rt, alloc, &report, lines);
+    a.reset();
+    assert!(rt; a.used_bytes() == 0);
+    let (told, refused) = lint_text(alloc, a, text, 0).ok().expect(rt, "memory");
+    same_at(rt, lines, told.as_slice(), lines.as_bytes());
+    assert!(rt; !refused);
 }
 
 #[test]
