@@ -12,7 +12,7 @@ use Rattle.arena_core.specs.Frame.{IsApart, AreAllApart, ArePairwiseApart, AreBl
 use Rattle.arena_store.specs.declared.block.Block.{Block}
 use Rattle.arena_core.proofs.FrameLemmas.{apart_part, apart_turned}
 use Rattle.arena_core.proofs.WrittenLemmas.{bytes_same}
-use Rattle.arena_core.proofs.StoredListLemmas.{readable_part}
+use Rattle.arena_core.proofs.ReadableLemmas.{readable_part}
 
 -- ---- Blocks that are apart
 

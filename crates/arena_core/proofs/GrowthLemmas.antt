@@ -1,11 +1,10 @@
 -- A granted chunk becomes the newest.
-use Rattle.std.proofs.Common.{◌≡◌, ℕ, ◌+◌, ◌-◌, ◌≤◌, ◌^◌, max, ap, sym, refl, subst, ◌∙◌, arith, IsTrue, Some, None, Option, List, [], ◌∷◌, ◌++◌, true, false, length, reverse, inl, inr}
+use Rattle.std.proofs.Common.{◌≡◌, ℕ, ◌+◌, ◌-◌, ◌≤◌, ◌^◌, max, ap, sym, refl, subst, ◌∙◌, arith, IsTrue, Some, None, Option, List, [], ◌∷◌, true, false, length, inl, inr}
 use Rattle.std.specs.Prelude.{◌==◌, if◌then◌else◌, slice_get}
 use Rattle.std.specs.Option.{option_map_or}
 use Rattle.std.proofs.lemmas.Bool.Decides.{nat_tests}
 use Rattle.std.specs.List.{All}
-use Rattle.std.proofs.lemmas.List.{reverse-append, reverse-reverse}
-use Rattle.std.proofs.lemmas.List.Elements.{All-push}
+use Rattle.std.proofs.lemmas.List.Elements.{All-cons}
 use Rattle.arena_rules.specs.Rounding.{is_layout}
 use Rattle.arena_rules.specs.State.{State, Chunk, AreChunks, IsValid, floor_of}
 use Rattle.arena_rules.specs.Search.{asked, asked_above, requests}
@@ -20,7 +19,7 @@ use Rattle.arena_core.specs.Adding.{AddsChunk}
 use Rattle.arena_store.specs.declared.chunk.StoredChunk.{StoredChunk}
 use Rattle.arena_core.specs.declared.arena.Arena.TheInside.{Inside}
 use Rattle.arena_store.proofs.AskedLemmas.{asked_none}
-use Rattle.arena_store.proofs.TableLemmas.{last_under}
+use Rattle.arena_store.proofs.TableLemmas.{chunks_in}
 use Rattle.arena_core.proofs.StoredLemmas.{kind, view_with, view_of, Stands}
 
 -- an arena that doesn't grow asks for nothing
@@ -85,28 +84,30 @@ module _ (m : ℕ) (a : Inside m) where
 
   -- the table, once it has what was the newest chunk, has all chunks
   table_all : (older : List StoredChunk) → Stands m a
-      → older ≡ (if a.newest.base == 16 then a.older.items else a.older.items ++ a.newest ∷ [])
-      → reverse older ≡ all_chunks a.newest a.older.items
+      → older ≡ (if a.newest.base == 16 then a.older.items else a.newest ∷ a.older.items)
+      → older ≡ all_chunks a.newest a.older.items
   table_all older stands is = elim (kind m a stands) [
     | inl none ↦ rw (is, none.0, none.2.older) refl
-    | inr some ↦ rw (is, some, reverse-append) refl
+    | inr some ↦ rw (is, some) refl
   ]
 
   table_ready : (older : List StoredChunk) → Stands m a
-      → older ≡ (if a.newest.base == 16 then a.older.items else a.older.items ++ a.newest ∷ []) → All IsReady older
+      → older ≡ (if a.newest.base == 16 then a.older.items else a.newest ∷ a.older.items) → All IsReady older
   table_ready older stands is = elim (kind m a stands) [
     | inl none ↦ rw (is, none.0) stands.older_ready
-    | inr some ↦ rw (is, some) (All-push IsReady a.older.items a.newest stands.older_ready stands.ready)
+    | inr some ↦ rw (is, some) (All-cons IsReady a.newest a.older.items stands.ready stands.older_ready)
   ]
 
   -- the newest chunk begins above all of the table
   pub topmost : Stands m a → IsTopmost a.newest.base a.older.items
   topmost stands = elim (kind m a stands) [
-    | inl none ↦ λ d some. absurd (omega (arith, some, ap length none.2.older))
-    | inr some ↦
-        let valid = rw some at stands.valid in
-        subst (IsTopmost a.newest.base) (reverse-reverse a.older.items) (last_under (reverse a.older.items) a.newest.base valid.chunks.1)
+    | inl none ↦ subst (IsTopmost a.newest.base) (sym none.2.older) tt
+    | inr some ↦ let valid = rw some at stands.valid in under a.older.items valid.chunks.1
   ]
+    where
+      under : (older : List StoredChunk) → floor_of (chunks_in older) ≤ a.newest.base → IsTopmost a.newest.base older
+      under [] above = tt
+      under (c ∷ older) above = omega (arith, above)
 
   pub record IsInstalled (memory : Memory) (base : ℕ) (bytes : List ℕ) (newest : StoredChunk) (older : List StoredChunk) : Type 0 where
     pub view : view_with m a newest older
@@ -117,7 +118,7 @@ module _ (m : ℕ) (a : Inside m) where
       → view_of m a ≡ memory
       → IsValid (with_chunk (base, length bytes.items) memory.state)
       → newest ≡ record { base = base; cursor = base + length bytes.items; bytes = bytes } → IsReady newest
-      → older ≡ (if a.newest.base == 16 then a.older.items else a.older.items ++ a.newest ∷ [])
+      → older ≡ (if a.newest.base == 16 then a.older.items else a.newest ∷ a.older.items)
       → IsInstalled memory base bytes.items newest older
   installed memory base bytes newest older stands view valid is ready table =
       let high : 4096 ≤ base = omega (arith, valid.chunks.1, floor_large memory.state.min_align memory.state.chunks valid.chunks.2) in

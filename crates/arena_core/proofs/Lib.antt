@@ -7,9 +7,8 @@ pub mod FrameLemmas
 pub mod AllocationLemmas
 pub mod GrowthLemmas
 pub mod LastLemmas
-pub mod StoredListLemmas
+pub mod ReadableLemmas
 pub mod PartLemmas
-pub mod LentLemmas
 pub mod CursorMoveLemmas
 pub mod ResizedLemmas
 pub mod CopiedLemmas

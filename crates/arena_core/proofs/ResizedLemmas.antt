@@ -31,7 +31,7 @@ use Rattle.arena_store.proofs.BytesLemmas.{length-bytes, written_beside}
 use Rattle.arena_core.proofs.WrittenLemmas.{bytes_same, bytes_written}
 use Rattle.arena_core.proofs.FrameLemmas.{apart_part, behind, beside_range}
 use Rattle.arena_core.proofs.FrameRules.{frame_reflexive, frame_weaken}
-use Rattle.arena_core.proofs.StoredListLemmas.{readable_part}
+use Rattle.arena_core.proofs.ReadableLemmas.{readable_part}
 
 -- the block of the state's generation at an address
 abbrev pub block_in : State → ℕ → ℕ → ℕ → Block

@@ -1,10 +1,9 @@
 -- An arena that goes back to a mark.
-use Rattle.std.proofs.Common.{◌≡◌, ℕ, zero, suc, ◌+◌, ◌-◌, ◌<◌, ◌≤◌, ap, sym, refl, subst, ◌∙◌, arith, IsTrue, List, [], ◌∷◌, ◌++◌, length, map, reverse, take, drop, get_or, true, false, inl, inr}
+use Rattle.std.proofs.Common.{◌≡◌, ℕ, zero, suc, ◌+◌, ◌-◌, ◌<◌, ◌≤◌, ap, sym, refl, subst, ◌∙◌, arith, IsTrue, List, [], ◌∷◌, length, map, drop, true, false, inl, inr}
 use Rattle.std.specs.Prelude.{◌==◌, nat_le}
 use Rattle.std.specs.List.{All}
-use Rattle.std.proofs.Math.Seq.{take-suc}
-use Rattle.std.proofs.lemmas.List.{reverse-append, length-reverse, length-map, length-drop, take-append-drop, drop_at, drop-map, get_or_default}
-use Rattle.std.proofs.lemmas.List.Elements.{All-take}
+use Rattle.std.proofs.lemmas.List.{length-map, drop-map}
+use Rattle.std.proofs.lemmas.List.Elements.{All-head, All-tail, All-drop}
 use Rattle.std.proofs.lemmas.Bool.Decides.{nat_tests}
 use Rattle.arena_rules.specs.State.{State, Chunk, AreChunks, IsValid, floor_of, start_of, top_of}
 use Rattle.arena_rules.specs.Back.{first_chunks, raised, back, accepts}
@@ -14,35 +13,14 @@ use Rattle.arena_rules.proofs.UsedLemmas.{floor_least, used_under}
 use Rattle.arena_store.specs.Memory.{Memory, byte_in, image, bytes_from, is_readable}
 use Rattle.arena_core.specs.Checkpoints.{with_first, first_bytes, mark_at, is_accepted, sent_back, GoesBack}
 use Rattle.arena_core.specs.declared.rewind.Checkpoint.{Checkpoint}
-use Rattle.arena_store.specs.Stored.{stored_chunk, stored_bytes, all_chunks, IsReady, IsStored}
+use Rattle.arena_store.specs.Stored.{stored_chunk, stored_bytes, all_chunks, oldest, IsOldest, IsReady, IsStored}
 use Rattle.arena_store.specs.declared.chunk.StoredChunk.{StoredChunk}
 use Rattle.arena_core.specs.declared.arena.Arena.TheInside.{Inside}
 use Rattle.arena_store.specs.declared.block.Block.{Block}
 use Rattle.arena_core.proofs.WrittenLemmas.{bytes_same}
-use Rattle.arena_core.proofs.StoredListLemmas.{readable_part}
+use Rattle.arena_core.proofs.ReadableLemmas.{readable_part}
 use Rattle.arena_store.proofs.TableLemmas.{chunks_in}
 use Rattle.arena_core.proofs.StoredLemmas.{kind, view_with, view_of, Stands}
-
--- ---- Lists
-
--- the last items of a reversed list are its first ones
-last_reversed : (xs : List StoredChunk) (n : ℕ) → n ≤ length xs → drop (length xs - n) (reverse xs) ≡ reverse (take n xs)
-last_reversed xs n within =
-    let rest : length (reverse (drop n xs)) ≡ length xs - n = length-reverse (drop n xs) ∙ length-drop n xs in
-    ap (λ (l : List StoredChunk). drop (length xs - n) l) (ap reverse (sym (take-append-drop n xs))
-    ∙ reverse-append (take n xs) (drop n xs))
-    ∙ ap (λ (k : ℕ). drop k (reverse (drop n xs) ++ reverse (take n xs))) (sym rest)
-    ∙ drop_at (reverse (drop n xs)) (reverse (take n xs)) (length (reverse (drop n xs))) refl
-
--- the first of all chunks, where the newest is one of the table
-first_of : (newest : StoredChunk) (items : List StoredChunk) (n : ℕ) (d : StoredChunk) → 0 < n → n ≤ length items
-    → drop (length (newest ∷ reverse items) - n) (newest ∷ reverse items) ≡ get_or items (n - 1) d ∷ reverse (take (n - 1) items)
-first_of newest items n d some within =
-    let k : length (newest ∷ reverse items) - n ≡ suc (length items - n) = omega (arith, length-reverse items) in
-    let next : n ≡ suc (n - 1) = omega arith in
-    ap (λ (j : ℕ). drop j (newest ∷ reverse items)) k ∙ last_reversed items n within
-    ∙ ap (λ (j : ℕ). reverse (take j items)) next ∙ ap reverse (take-suc items (n - 1) d (omega arith))
-    ∙ reverse-append (take (n - 1) items) (get_or items (n - 1) d ∷ [])
 
 module _ (m : ℕ) (a : Inside m) (memory : Memory) where
   pub record IsFirst (n : ℕ) (newest : StoredChunk) (older : List StoredChunk) : Type 0 where
@@ -53,27 +31,28 @@ module _ (m : ℕ) (a : Inside m) (memory : Memory) where
   -- an older chunk is the newest
   pub first_kept : (n : ℕ) (newest : StoredChunk) (older : List StoredChunk) → Stands m a → view_of m a ≡ memory → 0 < n
       → n ≤ length memory.state.chunks → (n ≡ length memory.state.chunks → ⊥)
-      → ((d : StoredChunk) → newest ≡ get_or a.older.items (n - 1) d) → older ≡ take (n - 1) a.older.items → IsFirst n newest older
-  first_kept n newest older stands view some within other newest_is older_is = elim (kind m a stands) [
+      → oldest n a.older.items ≡ newest ∷ older → IsFirst n newest older
+  first_kept n newest older stands view some within other is = elim (kind m a stands) [
     | inl none ↦ absurd (omega (arith, some, within, ap (λ (w : Memory). length w.state.chunks) view, empty none.0))
     | inr chunk ↦
-        let all : List StoredChunk = a.newest ∷ reverse a.older.items in
+        let all : List StoredChunk = a.newest ∷ a.older.items in
         let count : length memory.state.chunks ≡ suc (length a.older.items) = sym (ap (λ (w : Memory). length w.state.chunks) view)
-        ∙ rw chunk (length-map all stored_chunk ∙ ap suc (length-reverse a.older.items)) in
+        ∙ rw chunk (length-map all stored_chunk) in
         let fits : n ≤ length a.older.items = omega (arith, within, count, far count) in
-        let split : drop (length all - n) all ≡ newest ∷ reverse older =
-        first_of a.newest a.older.items n newest some fits
-        ∙ rw older_is (ap (λ (c : StoredChunk). c ∷ reverse (take (n - 1) a.older.items)) (sym (newest_is newest))) in
+        let back : length all - n ≡ suc (length a.older.items - n) = omega (arith, fits) in
+        let split : drop (length all - n) all ≡ newest ∷ older = ap (λ (k : ℕ). drop k all) back ∙ is in
+        let ready : All IsReady (newest ∷ older) = subst (All IsReady) is
+        (All-drop IsReady (length a.older.items - n) a.older.items stands.older_ready) in
         let state : IsValid (view_of m a).state = stands.valid in
         let first = first_valid n (view_of m a).state state (λ none. absurd (omega (arith, some, none))) in
-        let chunks : first_chunks n (view_of m a).state.chunks ≡ chunks_in (newest ∷ reverse older) =
+        let chunks : first_chunks n (view_of m a).state.chunks ≡ chunks_in (newest ∷ older) =
         rw chunk (ap (λ (k : ℕ). drop (k - n) (map stored_chunk all)) (length-map all stored_chunk)
         ∙ drop-map stored_chunk (length all - n) all ∙ ap (map stored_chunk) split) in
-        let lists : first_bytes n (view_of m a).bytes ≡ map stored_bytes (newest ∷ reverse older) =
+        let lists : first_bytes n (view_of m a).bytes ≡ map stored_bytes (newest ∷ older) =
         rw chunk (ap (λ (k : ℕ). drop (k - n) (map stored_bytes all)) (length-map all stored_bytes)
         ∙ drop-map stored_bytes (length all - n) all ∙ ap (map stored_bytes) split) in
-        let fine : AreChunks m (chunks_in (newest ∷ reverse older)) = subst (AreChunks m) chunks first.chunks in
-        let high : 4096 ≤ newest.base = omega (arith, fine.1, floor_least m (chunks_in (reverse older)) fine.2) in
+        let fine : AreChunks m (chunks_in (newest ∷ older)) = subst (AreChunks m) chunks first.chunks in
+        let high : 4096 ≤ newest.base = omega (arith, fine.1, floor_least m (chunks_in older) fine.2) in
         let test : (newest.base == 16) ≡ false = grind (arith, nat_tests) in
         let same : view_with m a newest older ≡ with_first n (view_of m a) = rw test (λ i. record {
           state = record (view_of m a).state { chunks = sym chunks i };
@@ -86,8 +65,8 @@ module _ (m : ℕ) (a : Inside m) (memory : Memory) where
           stored = record {
             valid = subst (λ (w : Memory). IsValid w.state) (sym same) first;
             none = λ is. absurd (omega (arith, is, high));
-            ready = subst IsReady (sym (newest_is newest)) (stands.older_ready (n - 1) newest (omega (arith, some, fits)));
-            older_ready = subst (All IsReady) (sym older_is) (All-take IsReady (n - 1) a.older.items stands.older_ready);
+            ready = All-head IsReady newest older ready;
+            older_ready = All-tail IsReady newest older ready;
           };
         }
   ]
@@ -103,17 +82,17 @@ module _ (m : ℕ) (a : Inside m) (memory : Memory) where
     pub top : top_of (first_chunks n memory.state.chunks) ≡ chunk.base + length chunk.bytes.items
 
   -- the bounds of the last of the first chunks, if it is in the table
-  pub ends_in : (n : ℕ) → Stands m a → view_of m a ≡ memory → 0 < n → n ≤ length a.older.items → n ≤ length memory.state.chunks
-      → AreEnds n (get_or a.older.items (n - 1) a.newest)
-  ends_in n stands view some fits within =
-      let c : StoredChunk = get_or a.older.items (n - 1) a.newest in let older = take (n - 1) a.older.items in
+  pub ends_in : (n : ℕ) (c : StoredChunk) → Stands m a → view_of m a ≡ memory → 0 < n → n ≤ length a.older.items
+      → n ≤ length memory.state.chunks → IsOldest a.older.items (n - 1) c → AreEnds n c
+  ends_in n c stands view some fits within is =
+      let older = oldest (n - 1) a.older.items in
       elim (kind m a stands) [
         | inl none ↦ absurd (omega (arith, some, within, ap (λ (w : Memory). length w.state.chunks) view, empty none.0))
         | inr chunk ↦
             let count : length memory.state.chunks ≡ suc (length a.older.items) = sym (ap (λ (w : Memory). length w.state.chunks) view)
-            ∙ rw chunk (length-map (a.newest ∷ reverse a.older.items) stored_chunk ∙ ap suc (length-reverse a.older.items)) in
+            ∙ rw chunk (length-map (a.newest ∷ a.older.items) stored_chunk) in
             let first : IsFirst n c older = first_kept n c older stands view some within (λ same. absurd (omega (arith, same, count, fits)))
-            (λ d. get_or_default a.older.items (n - 1) a.newest d (omega (arith, some, fits))) refl in
+            (ap (λ (k : ℕ). oldest k a.older.items) (omega (arith, some)) ∙ is) in
             let test : (c.base == 16) ≡ false = grind (arith, nat_tests, first.high) in
             record {
               start = ap (λ (w : Memory). start_of w.state.chunks) (sym first.view) ∙ rw test refl;
@@ -132,7 +111,7 @@ module _ (m : ℕ) (a : Inside m) (memory : Memory) where
         | inl none ↦ absurd (omega (arith, some, within, ap (λ (w : Memory). length w.state.chunks) view, empty none.0))
         | inr chunk ↦
             let count : length memory.state.chunks ≡ suc (length a.older.items) = sym (ap (λ (w : Memory). length w.state.chunks) view)
-            ∙ rw chunk (length-map (a.newest ∷ reverse a.older.items) stored_chunk ∙ ap suc (length-reverse a.older.items)) in
+            ∙ rw chunk (length-map (a.newest ∷ a.older.items) stored_chunk) in
             let all : length memory.state.chunks - n ≡ 0 = omega (arith, count, far) in
             record {
               start = ap (λ (k : ℕ). start_of (drop k memory.state.chunks)) all ∙ ap (λ (w : Memory). start_of w.state.chunks) (sym view)

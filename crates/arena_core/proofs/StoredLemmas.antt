@@ -1,14 +1,12 @@
 -- What the fields of an arena represent.
-use Rattle.std.proofs.Common.{◌≡◌, ℕ, ◌+◌, ◌-◌, ◌<◌, ◌≤◌, ◌^◌, min, max, ap, sym, refl, subst, ◌∙◌, arith, List, [], ◌∷◌, false, Bool, length, eqb-true, map, reverse, inl, inr, ◌⊎◌, sum, sum_by, Option, Some, true, leb-true}
+use Rattle.std.proofs.Common.{◌≡◌, ℕ, ◌+◌, ◌-◌, ◌<◌, ◌≤◌, ◌^◌, min, max, ap, sym, refl, subst, ◌∙◌, arith, List, [], ◌∷◌, false, Bool, length, eqb-true, map, inl, inr, ◌⊎◌, sum, sum_by, Option, Some, true, leb-true}
 use Rattle.std.specs.Prelude.{◌==◌, ◌||◌, nat_le}
 use Rattle.std.specs.List.{All, list_any}
 use Rattle.std.proofs.lemmas.Bool.{cases_Bool}
 use Rattle.std.proofs.lemmas.Bool.Decides.{nat_tests}
 use Rattle.std.proofs.lemmas.List.Sums.{sum-map, sum_by-cons}
-use Rattle.std.proofs.lemmas.List.{reverse-append, reverse-reverse}
-use Rattle.std.proofs.lemmas.List.Elements.{All-nil, All-cons, All-head, All-tail, All-push}
+use Rattle.std.proofs.lemmas.List.Elements.{All-nil, All-cons, All-head, All-tail}
 use Rattle.std.proofs.lemmas.Option.{cond_some}
-use Rattle.std.proofs.lemmas.List.Sorted.{sum_by-IsPermutation, list_any-IsPermutation, IsPermutation-reverse}
 use Rattle.arena_rules.specs.Rounding.{down}
 use Rattle.arena_rules.specs.State.{State, Chunk, AreChunks, IsChunk, IsValid, start_of, cursor_of, top_of, floor_of, with_cursor, used_length, is_used_by, is_range_used}
 use Rattle.arena_rules.specs.Search.{place, place_below}
@@ -29,15 +27,6 @@ view_of m a = view_with m a a.newest a.older.items
 
 abbrev pub Stands : (m : ℕ) → Inside m → Type 0
 Stands m a = IsStored (view_of m a) a.newest a.older.items
-
--- what holds for all holds for all in reverse
-pub all_reversed : {X : Type 0} (P : X → Type 0) → (xs : List X) → All P xs → All P (reverse xs)
-all_reversed P [] all = All-nil P
-all_reversed P (x ∷ xs) all = subst (All P) (sym (reverse-append (x ∷ []) xs))
-    (All-push P (reverse xs) x (all_reversed P xs (All-tail P x xs all)) (All-head P x xs all))
-
-pub all_straight : {X : Type 0} (P : X → Type 0) → (xs : List X) → All P (reverse xs) → All P xs
-all_straight P xs all = subst (All P) (reverse-reverse xs) (all_reversed P (reverse xs) all)
 
 chunks_ordered : (m : ℕ) (chunks : List StoredChunk) → AreChunks m (chunks_in chunks) → floor_of (chunks_in chunks) < 2 ^ 64
     → All IsReady chunks → All IsOrdered chunks
@@ -106,9 +95,8 @@ module _ (m : ℕ) (a : Inside m) where
     | inl none ↦ subst (All IsOrdered) (sym none.2.older) (All-nil IsOrdered)
     | inr some ↦
         let valid = rw some at stands.valid in
-        all_straight IsOrdered a.older.items (chunks_ordered m (reverse a.older.items) valid.chunks.2
-        (omega (arith, valid.top, valid.chunks.1, valid.chunks.0.cursor_low, valid.chunks.0.cursor_high))
-        (all_reversed IsReady a.older.items stands.older_ready))
+        chunks_ordered m a.older.items valid.chunks.2
+        (omega (arith, valid.top, valid.chunks.1, valid.chunks.0.cursor_low, valid.chunks.0.cursor_high)) stands.older_ready
   ]
 
   -- ---- Sums over all chunks
@@ -121,11 +109,8 @@ module _ (m : ℕ) (a : Inside m) where
       (elim (kind stands) [
         | inl none ↦ rw (none.0, none.2.older) (omega (arith, zero none.1))
         | inr some ↦
-            let same = sum_by-IsPermutation (λ (c : StoredChunk). f (stored_chunk c)) a.older.items (reverse a.older.items)
-            (IsPermutation-reverse a.older.items) in
-            rw some (sym (sum-map f (chunks_in (a.newest ∷ reverse a.older.items)) ∙ sum_mapped f (a.newest ∷ reverse a.older.items)
-            ∙ sum_by-cons (λ (c : StoredChunk). f (stored_chunk c)) a.newest (reverse a.older.items)
-            ∙ ap (λ (n : ℕ). f (stored_chunk a.newest) + n) same))
+            rw some (sym (sum-map f (chunks_in (a.newest ∷ a.older.items)) ∙ sum_mapped f (a.newest ∷ a.older.items)
+            ∙ sum_by-cons (λ (c : StoredChunk). f (stored_chunk c)) a.newest a.older.items))
       ])
 
   -- a sum over the newest and the table fits in 64 bits, if its terms are at most the sizes
@@ -151,9 +136,7 @@ module _ (m : ℕ) (a : Inside m) where
             let empty : is_used_by addr n (stored_chunk a.newest) ≡ false = nothing none.1 none.2 in
             rw (none.0, none.2.older, empty) refl
         | inr chunk ↦
-            rw chunk (ap (λ (b : Bool). is_used_by addr n (stored_chunk a.newest) || b)
-            (list_any-IsPermutation (λ (c : StoredChunk). is_used_by addr n (stored_chunk c)) a.older.items (reverse a.older.items)
-            (IsPermutation-reverse a.older.items) ∙ sym (any_mapped (is_used_by addr n) (reverse a.older.items))))
+            rw chunk (ap (λ (b : Bool). is_used_by addr n (stored_chunk a.newest) || b) (sym (any_mapped (is_used_by addr n) a.older.items)))
       ])
     where
       nothing : a.newest.base ≡ 16 → IsNone a.newest a.older.items → is_used_by addr n (stored_chunk a.newest) ≡ false

@@ -1,8 +1,8 @@
 -- What remains of a walk over the chunks of an arena.
-use Rattle.std.specs.Prelude.{◌≡◌, ℕ, ◌-◌, Option, Some, None, List, [], ◌∷◌, drop, take, map}
+use Rattle.std.specs.Prelude.{◌≡◌, ℕ, ◌-◌, Option, Some, None, List, [], ◌∷◌, drop, map}
 use Rattle.arena_rules.specs.State.{used_length}
 use Rattle.arena_rules.specs.State as state
-use Rattle.arena_store.specs.Stored.{stored_chunk, stored_bytes, chunks_left, IsOrdered}
+use Rattle.arena_store.specs.Stored.{stored_chunk, stored_bytes, chunks_left, oldest, IsOrdered}
 use Rattle.arena_store.specs.declared.chunk.StoredChunk.{StoredChunk}
 use Rattle.arena_store.specs.declared.table.Used.{Used}
 use Rattle.arena_core.specs.declared.iter.ChunksLeft.{ChunksLeft}
@@ -22,7 +22,7 @@ told_chunk c = record { base = c.base; size = c.size; cursor = c.cursor }
 
 -- the chunks that are still to come
 abbrev pub all_left : ChunksLeft → List StoredChunk
-all_left walk = chunks_left walk.newest (take walk.left walk.older.now.items)
+all_left walk = chunks_left walk.newest (oldest walk.left walk.older.now.items)
 
 -- the base of a chunk, and the first address and the bytes of its used part
 abbrev pub Tells : Used → StoredChunk → Type 0

@@ -4,15 +4,15 @@ ghost use Rattle.std.specs.Borrow.{sem};
 
 use crate::arena::Arena;
 use arena_store::Block;
-use arena_store::chunk::{part_at, part_at_mut};
-use arena_store::edit::{Edit, Fill, Put, Shift, edit_at, put_at, shift_in};
+use arena_store::chunk::{bytes_at, copy_bytes, part_at_mut};
+use arena_store::edit::{Edit, Fill, Put, Shift, shift_in};
 
 impl<const MIN_ALIGN: usize> Arena<MIN_ALIGN> {
     ghost use Rattle.arena_rules.specs.State.{is_range_used, start_of};
     ghost use Rattle.arena_store.specs.Memory.{Memory, Writes, is_readable, image, bytes_from};
     ghost use Rattle.arena_core.specs.BlockCalls.{WritesBlock, EditsBlock};
     ghost use Rattle.arena_store.specs.Lends.{with_block};
-    ghost use Rattle.arena_core.specs.BlockLends.{LendsBlock};
+    ghost use Rattle.arena_core.specs.BlockLends.{LendsBlock, LendsRange, with_range};
 
     /// Returns whether a block is readable: it is empty, or of the arena's generation with its bytes in one chunk's
     /// used part. A non-empty block from before a reset isn't, unless the generation was already at its maximum.
@@ -32,11 +32,7 @@ impl<const MIN_ALIGN: usize> Arena<MIN_ALIGN> {
         if block.size == 0 {
             return &[];
         }
-        if block.addr >= self.newest.base {
-            return part_at(&self.newest, block.addr, block.size);
-        }
-        let i = self.older.last_below(block.addr);
-        self.older.part(i, block.addr, block.size)
+        bytes_at(&self.newest, &self.older, block.addr, block.size)
     }
 
     /// Returns the bytes of a block, for writing. What is written there is in the block afterwards.
@@ -47,16 +43,7 @@ impl<const MIN_ALIGN: usize> Arena<MIN_ALIGN> {
         ensures writes { (list : List ℕ) → length list ≡ block.size
             → WritesBlock self.old (with_block self.old block list) block 0 list }
     {
-        if block.size == 0 {
-            // Its address may be anywhere.
-            let end = self.newest.base + self.newest.size();
-            return part_at_mut(&mut self.newest, end, 0);
-        }
-        if block.addr >= self.newest.base {
-            return part_at_mut(&mut self.newest, block.addr, block.size);
-        }
-        let i = self.older.last_below(block.addr);
-        self.older.part_mut(i, block.addr, block.size)
+        self.range_mut(block, 0, block.size)
     }
 
     /// Replaces bytes of a block, from the index `at` on.
@@ -102,16 +89,12 @@ impl<const MIN_ALIGN: usize> Arena<MIN_ALIGN> {
         ensures { WritesBlock self.old self.new target to (bytes_from (image self.old)
             (source.addr + from) size) }
     {
-        let newest = self.newest.base;
+        self.known();
         if size == 0 {
             return;
         }
-        let at = target.addr + to;
-        if at >= newest {
-            self.move_bytes(source.addr + from, at, size);
-        } else {
-            self.move_to_older(source.addr + from, at, size);
-        }
+        let (from, to) = (source.addr + from, target.addr + to);
+        copy_bytes(&mut self.newest, &mut self.older, from, to, size);
     }
 
     /// Sets all bytes of a block from an index on.
@@ -133,60 +116,34 @@ impl<const MIN_ALIGN: usize> Arena<MIN_ALIGN> {
         ensures { EditsBlock self.old self.new block at size (E.relates e.now) }
     {
         let newest = self.newest.base;
-        if size == 0 {
-            e.edit(&mut []);
+        if size == 0 || block.addr < newest {
+            e.edit(self.range_mut(block, at, size));
             return;
+        }
+        // The newest chunk has a path of its own: where both join, a write takes one more addition.
+        e.edit(part_at_mut(&mut self.newest, block.addr + at, size));
+    }
+
+    // Returns a range of a block's bytes, for writing.
+    #[inline(always)]
+    fn range_mut(&mut self, block: Block, at: u64, size: u64) -> &mut [u8]
+        requires readable { IsTrue (is_readable self.old.state block) }
+        requires range { at + size ≤ block.size }
+        ensures* writes_back { sem 𝓛 (LendsRange MIN_ALIGN.row self.entry (block.addr + at) size result) }
+        ensures value { result.now ≡ bytes_from (image self.old) (block.addr + at) size }
+        ensures writes { (list : List ℕ) → length list ≡ size
+            → WritesBlock self.old (with_range self.old (block.addr + at) size list) block at list }
+    {
+        if size == 0 {
+            // The block's address may be anywhere.
+            let end = self.newest.base + self.newest.size();
+            return part_at_mut(&mut self.newest, end, 0);
         }
         let addr = block.addr + at;
-        if block.addr >= newest {
-            edit_at(&mut self.newest, addr, size, e);
-        } else {
-            let i = self.older.find(block.addr);
-            e.edit(self.older.part_mut(i, addr, size));
+        if block.addr >= self.newest.base {
+            return part_at_mut(&mut self.newest, addr, size);
         }
-    }
-
-    // Moves n bytes to an address in an older chunk, in one memory move. The two ranges may overlap.
-    fn move_to_older(&mut self, from: u64, to: u64, n: u64)
-        requires some { 0 < n }
-        requires source { IsTrue (is_range_used self.old.state.chunks from n) }
-        requires target { IsTrue (is_range_used self.old.state.chunks to n) }
-        requires older { to < start_of self.old.state.chunks }
-        ensures state { self.new.state ≡ self.old.state }
-        ensures statistics { self.new.statistics ≡ self.old.statistics }
-        ensures bytes { Writes self.old self.new to (bytes_from (image self.old) from n) }
-    {
-        let newest = self.newest.base;
-        let j = self.older.find(to);
-        if from >= newest {
-            self.older
-                .part_mut(j, to, n)
-                .copy_from_slice(part_at(&self.newest, from, n));
-        } else {
-            let i = self.older.find(from);
-            self.older.copy_within(i, j, from, to, n);
-        }
-    }
-
-    // Moves n bytes to an address in the newest chunk, in one memory move. The two ranges may overlap.
-    #[inline(always)]
-    pub(crate) fn move_bytes(&mut self, from: u64, to: u64, n: u64)
-        requires source { 0 < n → IsTrue (is_range_used self.old.state.chunks from n) }
-        requires target { 0 < n → IsTrue (is_range_used self.old.state.chunks to n) }
-        requires newest { start_of self.old.state.chunks ≤ to }
-        ensures state { self.new.state ≡ self.old.state }
-        ensures statistics { self.new.statistics ≡ self.old.statistics }
-        ensures bytes { Writes self.old self.new to (bytes_from (image self.old) from n) }
-    {
-        if n == 0 {
-            return;
-        }
-        if from >= self.newest.base {
-            self.move_in_newest(from, to, n);
-        } else {
-            let i = self.older.find(from);
-            put_at(&mut self.newest, to, self.older.part(i, from, n));
-        }
+        self.older.bytes_mut(addr, size)
     }
 
     // Moves n bytes within the newest chunk, in one memory move. The two ranges may overlap.
@@ -194,7 +151,7 @@ impl<const MIN_ALIGN: usize> Arena<MIN_ALIGN> {
     pub(crate) fn move_in_newest(&mut self, from: u64, to: u64, n: u64)
         requires source { 0 < n → IsTrue (is_range_used self.old.state.chunks from n) }
         requires target { 0 < n → IsTrue (is_range_used self.old.state.chunks to n) }
-        requires newest { (start_of self.old.state.chunks ≤ from) × (start_of self.old.state.chunks ≤ to) }
+        requires newest { 0 < n → (start_of self.old.state.chunks ≤ from) × (start_of self.old.state.chunks ≤ to) }
         ensures state { self.new.state ≡ self.old.state }
         ensures statistics { self.new.statistics ≡ self.old.statistics }
         ensures bytes { Writes self.old self.new to (bytes_from (image self.old) from n) }

@@ -208,11 +208,10 @@ impl<const MIN_ALIGN: usize> Arena<MIN_ALIGN> {
         let newest = self.newest.base;
         if n == 0 || from >= newest {
             self.place_at(addr, layout);
-            self.move_bytes(from, addr, n);
+            self.move_in_newest(from, addr, n);
             return;
         }
-        let i = self.older.find(from);
-        let bytes = self.older.part(i, from, n);
+        let bytes = self.older.bytes(from, n);
         self.newest.make_ready_with(addr, bytes);
         self.newest.cursor = addr;
         count_one(&mut self.allocations);

@@ -14,7 +14,7 @@ use std::marker::Model;
 pub struct Arena<const MIN_ALIGN: usize> {
     // The newest chunk, in which blocks are placed. A base of 16 means that there is none, and no older ones either.
     pub(crate) newest: StoredChunk,
-    // The other chunks, oldest first, so that their bases increase.
+    // The other chunks.
     pub(crate) older: Table,
     // Whether more chunks are asked for.
     pub(crate) is_growing: bool,

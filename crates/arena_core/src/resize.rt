@@ -194,7 +194,7 @@ impl<const MIN_ALIGN: usize> Arena<MIN_ALIGN> {
         }
         let addr = block.addr + delta;
         let shrunk = self.block_of(addr, layout);
-        self.move_bytes(block.addr, addr, layout.size);
+        self.move_in_newest(block.addr, addr, layout.size);
         self.move_cursor(addr);
         shrunk
     }

@@ -4,7 +4,7 @@ use Rattle.std.specs.Prelude.{slice_index, nat_le}
 use Rattle.std.specs.List.Sorted.{IsStrictlyIncreasing}
 use Rattle.std.proofs.lemmas.Bool.{cases_lt}
 use Rattle.std.proofs.Math.Nat.{mul-le-mul_left, add-mul, mul-add, two-pow-succ}
-use Rattle.arena_store.specs.Table.{IsSplit}
+use Rattle.arena_store.specs.Table.{IsSplit, HasBelow, IsLastBelow}
 
 -- numbers that increase
 pub rises : (xs : List ℕ) (i j : ℕ) → IsStrictlyIncreasing xs → i ≤ j → j < length xs → slice_index xs i ≤ slice_index xs j
@@ -155,3 +155,18 @@ split_next bases addr i n b up below at is = go (nat_le b addr) refl
     go true is_test = split_more bases addr i n up below (omega (arith, at, leb-true _ _ is_test)) is
     go false is_test = let same : n + 0 ≡ n = omega arith in
         rw same (split_past bases addr i n (omega (arith, at, leb-false _ _ is_test)) is)
+
+-- the last base that is at most the address
+pub last_split : (bases : List ℕ) (addr n : ℕ) → IsSplit bases addr n → 0 < n → IsLastBelow bases addr (n - 1)
+last_split bases addr n is some = record {
+  within = omega (arith, is.within, some);
+  low = is.low (n - 1) (omega (arith, some));
+  above = λ k after below. is.above k (omega (arith, after)) below;
+}
+
+-- there is one
+pub split_some : (bases : List ℕ) (addr n : ℕ) → IsSplit bases addr n → HasBelow bases addr → 0 < n
+split_some bases addr n is some = elim (cases_lt some.0 n) [
+  | inl before ↦ omega (arith, before)
+  | inr past ↦ absurd (omega (arith, some.2, is.above some.0 past some.1))
+]

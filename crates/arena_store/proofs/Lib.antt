@@ -1,11 +1,11 @@
 pub mod WrittenFrom
 pub mod CopiedKeptLemmas
 pub mod KeptLemmas
+pub mod LookupLemmas
 pub mod BelowLemmas
 pub mod Asking
 pub mod BytesLemmas
 pub mod AskedLemmas
-pub mod EditLemmas
 pub mod TellingLemmas
 pub mod TableLemmas
 pub mod ShiftLemmas

@@ -8,6 +8,7 @@ use Rattle.std.specs.Simd.Lanes.{put_chunk, chunk}
 use Rattle.arena_rules.specs.Lists.{splice}
 use Rattle.arena_region.specs.Bytes.{written_from}
 use Rattle.arena_store.proofs.BytesLemmas.{length-splice}
+use Rattle.arena_store.proofs.WrittenFrom.{written_spliced}
 
 -- a list after n of its bytes were moved
 abbrev pub moved : List ℕ → ℕ → ℕ → ℕ → List ℕ
@@ -96,18 +97,16 @@ moved_first xs from to n m target up some = simp unary_clauses at (moved_back xs
 
 -- ---- A move in the last part of a list
 
--- writing a list over the last part replaces that part
-last_written : (xs new : List ℕ) (k : ℕ) → k + length new ≡ length xs → written_from xs k new ≡ splice xs k new
-last_written xs new k whole = grind (arith, common_steps)
-
 -- So a move in the last part is a move in the list.
 pub moved_in_last : (xs part new : List ℕ) (k from to n : ℕ) → part ≡ take (length xs - k) (drop k xs) → new ≡ moved part from to n
-    → k + from + n ≤ length xs → k + to + n ≤ length xs → written_from xs k new ≡ moved xs (k + from) (k + to) n
+    → k + from + n ≤ length xs → k + to + n ≤ length xs
+    → written_from xs k new ≡ written_from xs (k + to) (take n (drop (k + from) xs))
 moved_in_last xs part new k from to n is moves source target =
     let sized : length part ≡ length xs - k = ap length is ∙ length-part xs k (length xs - k) (omega arith) in
     let still : length new ≡ length part = ap length moves ∙ length-moved part from to n (omega (arith, sized)) (omega (arith, sized)) in
     let whole = length-moved xs (k + from) (k + to) n (omega arith) (omega arith) in
     let last = length-splice xs new k (omega (arith, still, sized)) in
-    last_written xs new k (omega (arith, still, sized))
+    written_spliced xs new k (omega (arith, still, sized))
     ∙ same_number_lists (splice xs k new) (moved xs (k + from) (k + to) n) (last ∙ sym whole) (λ i below.
     rw (moves, is) (grind (arith, cases_lt i k, cases_lt i (k + to), cases_lt i (k + to + n), by_index)))
+    ∙ sym (written_spliced xs (take n (drop (k + from) xs)) (k + to) (omega (arith, length-part xs (k + from) n source)))

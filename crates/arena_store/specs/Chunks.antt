@@ -2,7 +2,7 @@
 use Rattle.std.specs.Prelude.{ℕ, List}
 use Rattle.arena_store.specs.declared.chunk.StoredChunk.{StoredChunk}
 
--- the chunks, oldest first, and the spare capacity
+-- the chunks, newest first, and the spare capacity
 pub record Chunks : Type 0 where
   pub items : List StoredChunk
   pub spare : ℕ

@@ -1,11 +1,9 @@
--- How an arena stores its chunks: the newest in a field of its own, the others in a table, oldest first.
-use Rattle.std.specs.Prelude.{◌≡◌, ℕ, ◌+◌, ◌-◌, ◌^◌, ◌<◌, ◌≤◌, ◌==◌, Bool, Option, Some, None, List, [], ◌∷◌, ◌++◌, length, map, reverse, IsTrue, nat_le, take, drop, get_or, slice_set, if◌then◌else◌}
+-- How an arena stores its chunks: the newest in a field of its own, the others in a table.
+use Rattle.std.specs.Prelude.{◌≡◌, ◌⊎◌, ℕ, ◌+◌, ◌-◌, ◌^◌, ◌<◌, ◌≤◌, ◌==◌, Bool, Option, Some, None, List, [], ◌∷◌, length, map, nat_le, take, drop, if◌then◌else◌}
 use Rattle.std.specs.Borrow.{Bor}
-use Rattle.std.specs.List.{All, AllByRecursion, list_any}
-use Rattle.std.specs.List.Sorted.{IsNonDecreasingBy}
+use Rattle.std.specs.List.{All}
 use Rattle.arena_rules.specs.State.{Chunk, IsValid}
-use Rattle.arena_rules.specs.Lists.{splice}
-use Rattle.arena_region.specs.Bytes.{bytes}
+use Rattle.arena_region.specs.Bytes.{bytes, written_from}
 use Rattle.arena_store.specs.Memory.{Memory}
 use Rattle.arena_store.specs.declared.chunk.StoredChunk.{StoredChunk}
 
@@ -25,7 +23,7 @@ IsReady c = floor_in c ≤ c.cursor
 
 -- all chunks, newest first: none if the newest begins at 16, which means that there is no chunk
 abbrev pub all_chunks : StoredChunk → List StoredChunk → List StoredChunk
-all_chunks newest older = if newest.base == 16 then [] else newest ∷ reverse older
+all_chunks newest older = if newest.base == 16 then [] else newest ∷ older
 
 abbrev pub memory_of : ℕ → Bool → ℕ → ℕ → ℕ → StoredChunk → List StoredChunk → Memory
 memory_of min_align is_growing generation allocations reallocations newest older = record {
@@ -58,24 +56,18 @@ pub record IsOrdered (chunk : StoredChunk) : Type 0 where
   pub high : chunk.cursor ≤ chunk.base + length chunk.bytes.items
   pub fits : chunk.base + length chunk.bytes.items < 2 ^ 64
 
--- the last of these chunks begins below the address, and so do all
+-- the first of these chunks, and so each of them, begins below the address
 abbrev pub IsTopmost : ℕ → List StoredChunk → Type 0
-IsTopmost base chunks = (d : StoredChunk) → 0 < length chunks → (get_or chunks (length chunks - 1) d).base < base
+IsTopmost base [] = Unit {0}
+IsTopmost base (newest ∷ older) = newest.base < base
 
--- the precondition of a search in the table: the bases are sorted, and some chunk begins at or below the address
-pub record IsSearchable (chunks : List StoredChunk) (addr : ℕ) : Type 0 where
-  pub sorted : IsNonDecreasingBy (λ (c : StoredChunk). c.base) chunks
-  pub some : IsTrue (list_any (λ (c : StoredChunk). nat_le c.base addr) chunks)
+-- the n oldest chunks
+abbrev pub oldest : ℕ → List StoredChunk → List StoredChunk
+oldest n chunks = drop (length chunks - n) chunks
 
--- the chunk at this index is the last that begins at or below the address
-pub record IsLastBelow (chunks : List StoredChunk) (addr i : ℕ) : Type 0 where
-  pub before : List StoredChunk
-  pub chunk : StoredChunk
-  pub after : List StoredChunk
-  pub split : chunks ≡ before ++ chunk ∷ after
-  pub at : length before ≡ i
-  pub low : chunk.base ≤ addr
-  pub above : AllByRecursion (λ (c : StoredChunk). addr < c.base) after
+-- the chunk is the oldest but i
+abbrev pub IsOldest : List StoredChunk → ℕ → StoredChunk → Type 0
+IsOldest chunks i c = oldest (i + 1) chunks ≡ c ∷ oldest i chunks
 
 -- the chunk is ready from an address on, and otherwise as it was
 pub record IsMadeReady (old new : StoredChunk) (addr : ℕ) : Type 0 where
@@ -83,43 +75,34 @@ pub record IsMadeReady (old new : StoredChunk) (addr : ℕ) : Type 0 where
   pub chunk : new ≡ record old { bytes = bytes old.bytes.items low }
   pub ready : old.base + low ≤ addr
 
--- n bytes of the chunk from this address on are replaced by a list
-pub record IsEdited (old new : StoredChunk) (addr n : ℕ) (list : List ℕ) : Type 0 where
-  pub base : new.base ≡ old.base
-  pub cursor : new.cursor ≡ old.cursor
-  pub low : new.bytes.low ≡ old.bytes.low
-  pub sized : length list ≡ n
-  pub bytes : new.bytes.items ≡ splice old.bytes.items (addr - old.base) list
-
 -- n bytes of the chunk from this address on
 abbrev pub part_of : StoredChunk → ℕ → ℕ → List ℕ
 part_of c addr n = take n (drop (addr - c.base) c.bytes.items)
 
--- the same by a change of the bytes there, of which this list is a possible result
-pub record EditsPart (old new : StoredChunk) (addr n : ℕ) (relates : List ℕ → List ℕ → Type 0) : Type 0 where
-  pub list : List ℕ
-  pub related : relates (part_of old addr n) list
-  pub edited : IsEdited old new addr n list
+-- the chunk with a list written over its bytes from an address on
+abbrev pub with_part : StoredChunk → ℕ → List ℕ → StoredChunk
+with_part c addr list = record c { bytes = bytes (written_from c.bytes.items (addr - c.base) list) c.bytes.low }
 
--- the chunk at this index is ready from its cursor on, and its n bytes from this address on are used
-pub record HasPart (chunks : List StoredChunk) (i addr n : ℕ) : Type 0 where
-  pub within : i < length chunks
-  pub ready : (c : StoredChunk) → c ≡ get_or chunks i c → IsReady c
-  pub low : (c : StoredChunk) → c ≡ get_or chunks i c → c.cursor ≤ addr
-  pub high : (c : StoredChunk) → c ≡ get_or chunks i c → addr + n ≤ c.base + length c.bytes.items
+-- the chunk is ready from its cursor on, and its n bytes from this address on are used
+pub record HasPart (c : StoredChunk) (addr n : ℕ) : Type 0 where
+  pub ready : IsReady c
+  pub used : c.cursor ≤ addr
+  pub high : addr + n ≤ c.base + length c.bytes.items
 
--- The chunk at the index j has, from the address `to` on, the n bytes that the one at i had from the address `from` on.
--- The table is otherwise as it was.
-pub record CopiesPart (old new : List StoredChunk) (i j from to n : ℕ) : Type 0 where
-  pub source : StoredChunk
-  pub target : StoredChunk
-  pub copied : StoredChunk
-  pub at_source : source ≡ get_or old i source
-  pub at_target : target ≡ get_or old j target
-  pub table : new ≡ slice_set old j copied
-  pub edited : IsEdited target copied to n (part_of source from n)
+-- The same in a list of chunks, newest first: the first that begins at or below the address has what is there.
+abbrev pub HasPartIn : List StoredChunk → ℕ → ℕ → Type 0
+HasPartIn [] addr n = ⊥
+HasPartIn (c ∷ older) addr n = ((c.base ≤ addr) × HasPart c addr n) ⊎ ((addr < c.base) × HasPartIn older addr n)
 
--- what remains of a walk: the newest chunk, if it is still to come, and the others, newest first
+abbrev pub part_in : List StoredChunk → ℕ → ℕ → List ℕ
+part_in [] addr n = []
+part_in (c ∷ older) addr n = if nat_le c.base addr then part_of c addr n else part_in older addr n
+
+abbrev pub with_part_in : List StoredChunk → ℕ → List ℕ → List StoredChunk
+with_part_in [] addr list = []
+with_part_in (c ∷ older) addr list = if nat_le c.base addr then with_part c addr list ∷ older else c ∷ with_part_in older addr list
+
+-- what remains of a walk: the newest chunk, if it is still to come, and the others
 abbrev pub chunks_left : Option (Bor StoredChunk) → List StoredChunk → List StoredChunk
-chunks_left None older = reverse older
-chunks_left (Some newest) older = newest.now ∷ reverse older
+chunks_left None older = older
+chunks_left (Some newest) older = newest.now ∷ older

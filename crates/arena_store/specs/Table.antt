@@ -1,8 +1,7 @@
 -- The table of the chunks but the newest: the bases are stored apart from the bytes.
-use Rattle.std.specs.Prelude.{◌≡◌, ◌⊎◌, nat_le, if◌then◌else◌, Option, Some, None, ℕ, ◌+◌, ◌-◌, ◌<◌, ◌≤◌, List, [], ◌∷◌, length, min, get_or, slice_index}
-use Rattle.std.specs.List.{All, AllByRecursion}
+use Rattle.std.specs.Prelude.{◌≡◌, nat_le, if◌then◌else◌, Option, Some, None, ℕ, ◌+◌, ◌-◌, ◌<◌, ◌≤◌, List, [], ◌∷◌, length, min, slice_index}
+use Rattle.std.specs.List.{All}
 use Rattle.arena_bases.specs.Bases.{Numbers}
-use Rattle.arena_store.specs.Stored.{part_of, IsLastBelow}
 use Rattle.arena_store.specs.declared.chunk.StoredChunk.{StoredChunk}
 use Rattle.arena_store.specs.declared.table.Kept.{Kept}
 use Rattle.arena_store.specs.Chunks.{Chunks}
@@ -11,13 +10,14 @@ use Rattle.arena_store.specs.Chunks.{Chunks}
 abbrev pub chunk_of : ℕ → Kept → StoredChunk
 chunk_of base k = record { base = base; cursor = base + (length k.bytes.items - k.used); bytes = k.bytes }
 
-abbrev pub chunks_of : List ℕ → List Kept → List StoredChunk
-chunks_of [] kept = []
-chunks_of (base ∷ bases) [] = []
-chunks_of (base ∷ bases) (k ∷ kept) = chunk_of base k ∷ chunks_of bases kept
+-- chunks with those of a table put before them, each newer than the one before
+abbrev pub chunks_onto : List StoredChunk → List ℕ → List Kept → List StoredChunk
+chunks_onto older [] kept = older
+chunks_onto older (base ∷ bases) [] = older
+chunks_onto older (base ∷ bases) (k ∷ kept) = chunks_onto (chunk_of base k ∷ older) bases kept
 
 abbrev pub table_of : Numbers → List Kept → ℕ → Chunks
-table_of bases kept room = record { items = chunks_of bases.items kept; spare = min bases.spare room }
+table_of bases kept room = record { items = chunks_onto [] bases.items kept; spare = min bases.spare room }
 
 -- at most as many bytes are used as there are
 abbrev pub IsKept : Kept → Type 0
@@ -34,14 +34,19 @@ pub record IsSplit (bases : List ℕ) (addr n : ℕ) : Type 0 where
   pub low : (k : ℕ) → k < n → slice_index bases k ≤ addr
   pub above : (k : ℕ) → n ≤ k → k < length bases → addr < slice_index bases k
 
--- the list is n bytes of the chunk at this index, from an address on
-abbrev pub IsPartIn : List StoredChunk → ℕ → ℕ → ℕ → List ℕ → Type 0
-IsPartIn chunks i addr n list = (c : StoredChunk) → c ≡ get_or chunks i c → list ≡ part_of c addr n
+-- some number is at most the address
+abbrev pub HasBelow : List ℕ → ℕ → Type 0
+HasBelow bases addr = (k : ℕ) × (k < length bases) × (slice_index bases k ≤ addr)
 
--- What the table returns for an address: none, if all chunks begin above it; otherwise the number of the last that
--- doesn't, if it reaches that far.
-abbrev pub IsNumberIn : List StoredChunk → ℕ → Option ℕ → Type 0
-IsNumberIn chunks addr answer =
-    (AllByRecursion (λ (c : StoredChunk). addr < c.base) chunks × (answer ≡ None))
-    ⊎ ((i : ℕ) × (last : IsLastBelow chunks addr i)
-    × (answer ≡ (if nat_le addr (last.chunk.base + length last.chunk.bytes.items) then Some i else None)))
+-- the number at this index is the last that is at most the address
+pub record IsLastBelow (bases : List ℕ) (addr i : ℕ) : Type 0 where
+  pub within : i < length bases
+  pub low : slice_index bases i ≤ addr
+  pub above : (k : ℕ) → i < k → k < length bases → addr < slice_index bases k
+
+-- What the table returns for an address: the number of the newest chunk that begins at or below it, if that reaches
+-- so far.
+abbrev pub number_in : ℕ → List StoredChunk → Option ℕ
+number_in addr [] = None
+number_in addr (c ∷ older) =
+    if nat_le c.base addr then (if nat_le addr (c.base + length c.bytes.items) then Some (length older) else None) else number_in addr older

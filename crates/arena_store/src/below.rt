@@ -1,7 +1,7 @@
 // Which of a table's bases is the last at or below an address.
 ghost use Rattle.std.specs.Prelude.{◌≡◌, ◌+◌, ◌-◌, ◌*◌, ◌^◌, ◌<◌, ◌≤◌, length, slice_index};
 ghost use Rattle.arena_bases.specs.Bases.{IsBlankOf};
-ghost use Rattle.arena_store.specs.Table.{IsSplit};
+ghost use Rattle.arena_store.specs.Table.{IsSplit, HasBelow, IsLastBelow};
 
 use arena_bases::{Bases, Steps};
 use std::marker::Brand;
@@ -48,13 +48,12 @@ fn count<L: Ledger>(bases: &Bases, addr: u64, steps: &mut Steps<L>) -> u64
     n
 }
 
-// Returns how many of the bases are at most an address, the first of which is. The last base is that of the largest
+// Returns how many of the bases are at most an address, of which there are some. The last base is that of the largest
 // chunk, so it is read first: the chunk's bytes are then fetched before the address is known. For few bases a count is
 // faster than a search, each branch of which may be mispredicted.
 fn split_of<L: Ledger>(bases: &Bases, addr: u64, blank: Blank) -> u64
     requires blank { IsBlankOf L.name L.parts blank }
-    requires some { 0 < length bases.now.items }
-    requires first { slice_index bases.now.items 0 ≤ addr }
+    requires some { HasBelow bases.now.items addr }
     ensures { IsSplit bases.now.items addr result }
 {
     let mut steps = Steps::<L>::new(blank);
@@ -66,16 +65,6 @@ fn split_of<L: Ledger>(bases: &Bases, addr: u64, blank: Blank) -> u64
     } else {
         search(bases, addr, &mut steps).0
     }
-}
-
-// Does what `split_of` does, with its own step counter.
-#[inline(always)]
-pub(crate) fn split(bases: &Bases, addr: u64) -> u64
-    requires some { 0 < length bases.now.items }
-    requires first { slice_index bases.now.items 0 ≤ addr }
-    ensures { IsSplit bases.now.items addr result }
-{
-    split_of::<Brand>(bases, addr, Blank::new(1))
 }
 
 fn base_of<L: Ledger>(bases: &Bases, i: u64, blank: Blank) -> u64
@@ -94,4 +83,16 @@ pub(crate) fn base(bases: &Bases, i: u64) -> u64
     ensures { result ≡ slice_index bases.now.items i }
 {
     base_of::<Brand>(bases, i, Blank::new(1))
+}
+
+// Returns the index of the last base that is at most an address, with its own step counter, and how far the address is
+// above that base.
+#[inline(always)]
+pub(crate) fn last_below(bases: &Bases, addr: u64) -> (usize, usize)
+    requires { HasBelow bases.now.items addr }
+    ensures last { IsLastBelow bases.now.items addr result.0 }
+    ensures offset { result.1 ≡ addr - slice_index bases.now.items result.0 }
+{
+    let i = split_of::<Brand>(bases, addr, Blank::new(1)) - 1;
+    (i as usize, (addr - base(bases, i)) as usize)
 }

@@ -5,9 +5,10 @@ ghost use Rattle.std.specs.List.{All, list_any, count_by};
 ghost use Rattle.arena_rules.specs.State.{used_length, is_used_by};
 ghost use Rattle.arena_region.specs.Bytes.{bytes, written_from};
 ghost use Rattle.arena_store.specs.Lends.{LendsPart};
-ghost use Rattle.arena_store.specs.Stored.{stored_chunk, floor_in, part_of, IsOrdered, IsMadeReady, IsTopmost};
+ghost use Rattle.arena_store.specs.Stored.{stored_chunk, floor_in, part_of, part_in, with_part_in, HasPartIn, IsOrdered, IsMadeReady, IsTopmost};
 
 use crate::block::Block;
+use crate::edit::shift_in;
 use crate::table::Table;
 use arena_region::Region;
 use std::alloc::Global;
@@ -151,7 +152,7 @@ pub fn install(newest: &mut StoredChunk, older: &mut Table, base: u64, bytes: Re
     ensures newest { newest.new ≡ record { base = base; cursor = base + length bytes.items; bytes = bytes } }
     ensures ready { floor_in newest.new ≤ newest.new.cursor }
     ensures older { older.new.items
-        ≡ (if newest.old.base == 16 then older.old.items else older.old.items ++ newest.old ∷ []) }
+        ≡ (if newest.old.base == 16 then older.old.items else newest.old ∷ older.old.items) }
 {
     let last = mem::replace(newest, StoredChunk::unused(base, bytes));
     if last.base == NOWHERE {
@@ -160,11 +161,62 @@ pub fn install(newest: &mut StoredChunk, older: &mut Table, base: u64, bytes: Re
     older.push(last);
 }
 
+/// Returns the bytes at these addresses, which must be used, in the newest chunk or in an older one.
+#[inline(always)]
+pub fn bytes_at<'a>(newest: &'a StoredChunk, older: &'a Table, addr: u64, n: u64) -> &'a [u8]
+    requires { HasPartIn (newest.now ∷ older.now.items) addr n }
+    ensures { result.now ≡ part_in (newest.now ∷ older.now.items) addr n }
+{
+    if addr >= newest.base {
+        part_at(newest, addr, n)
+    } else {
+        older.bytes(addr, n)
+    }
+}
+
+/// Copies used bytes to a used place, in one memory move. Each may be in the newest chunk or in an older one. The two
+/// ranges may overlap.
+#[inline(always)]
+pub fn copy_bytes(newest: &mut StoredChunk, older: &mut Table, from: u64, to: u64, n: u64)
+    requires source { HasPartIn (newest.old ∷ older.old.items) from n }
+    requires target { HasPartIn (newest.old ∷ older.old.items) to n }
+    ensures { let list = part_in (newest.old ∷ older.old.items) from n in
+        newest.new ∷ older.new.items ≡ with_part_in (newest.old ∷ older.old.items) to list }
+{
+    if to >= newest.base && from >= newest.base {
+        shift_in(newest, from, to, n);
+    } else {
+        copy_older(newest, older, from, to, n);
+    }
+}
+
+// Copies bytes from an older chunk or to one. It is kept out of line, so that a copy in the newest chunk is small enough
+// to be inlined.
+#[cold]
+#[inline(never)]
+fn copy_older(newest: &mut StoredChunk, older: &mut Table, from: u64, to: u64, n: u64)
+    requires source { HasPartIn (newest.old ∷ older.old.items) from n }
+    requires target { HasPartIn (newest.old ∷ older.old.items) to n }
+    requires older { newest.old.base ≤ to → from < newest.old.base }
+    ensures { let list = part_in (newest.old ∷ older.old.items) from n in
+        newest.new ∷ older.new.items ≡ with_part_in (newest.old ∷ older.old.items) to list }
+{
+    if to >= newest.base {
+        part_at_mut(newest, to, n).copy_from_slice(older.bytes(from, n));
+    } else if from >= newest.base {
+        older
+            .bytes_mut(to, n)
+            .copy_from_slice(part_at(newest, from, n));
+    } else {
+        older.copy(from, to, n);
+    }
+}
+
 /// Returns the chunk's bytes at these addresses, which must be ready.
 pub fn part_at(chunk: &StoredChunk, addr: u64, size: u64) -> &[u8]
     requires low { floor_in chunk.now ≤ addr }
     requires high { addr - chunk.now.base + size ≤ length chunk.now.bytes.items }
-    ensures { result.now ≡ take size (drop (addr - chunk.now.base) chunk.now.bytes.items) }
+    ensures { result.now ≡ part_of chunk.now addr size }
 {
     chunk
         .bytes

@@ -1,7 +1,7 @@
 // Changes of bytes in place.
 ghost use Rattle.std.specs.Prelude.{◌≡◌, ℕ, ◌+◌, ◌-◌, ◌≤◌, List, length, take, drop, replicate};
 ghost use Rattle.arena_rules.specs.Lists.{splice};
-ghost use Rattle.arena_store.specs.Stored.{floor_in, IsEdited, EditsPart, part_of};
+ghost use Rattle.arena_store.specs.Stored.{HasPart, part_of, with_part};
 
 use crate::chunk::StoredChunk;
 use crate::shift::shift;
@@ -21,35 +21,12 @@ pub trait Edit {
         ensures { relates self.now place.old place.new };
 }
 
-/// Changes the chunk's bytes at these addresses, which must be ready.
-pub fn edit_at<E: Edit>(chunk: &mut StoredChunk, addr: u64, size: u64, e: &E)
-    requires low { floor_in chunk.old ≤ addr }
-    requires high { addr - chunk.old.base + size ≤ length chunk.old.bytes.items }
-    requires suits { E.suits e.now (part_of chunk.old addr size) }
-    ensures { EditsPart chunk.old chunk.new addr size (E.relates e.now) }
-{
-    let from = (addr - chunk.base) as usize;
-    e.edit(chunk.bytes.part_mut(from, size as usize));
-}
-
-/// Replaces the chunk's bytes at these addresses, which must be ready, by a list.
-#[tactic(auto, using(crate::proofs::EditLemmas::put_edited, crate::proofs::EditLemmas::part_length))]
-pub fn put_at(target: &mut StoredChunk, to: u64, bytes: &[u8])
-    requires low { floor_in target.old ≤ to }
-    requires high { to - target.old.base + length bytes.now ≤ length target.old.bytes.items }
-    ensures { IsEdited target.old target.new to (length bytes.now) bytes.now }
-{
-    edit_at(target, to, bytes.len() as u64, &Put { bytes });
-}
-
 /// Moves bytes of a chunk to another place in its used part. The two ranges may overlap.
 #[inline(always)]
 pub fn shift_in(chunk: &mut StoredChunk, from: u64, to: u64, size: u64)
-    requires ready { floor_in chunk.old ≤ chunk.old.cursor }
-    requires low { (chunk.old.cursor ≤ from) × (chunk.old.cursor ≤ to) }
-    requires source { from - chunk.old.base + size ≤ length chunk.old.bytes.items }
-    requires target { to - chunk.old.base + size ≤ length chunk.old.bytes.items }
-    ensures { IsEdited chunk.old chunk.new to size (part_of chunk.old from size) }
+    requires source { HasPart chunk.old from size }
+    requires target { HasPart chunk.old to size }
+    ensures { chunk.new ≡ with_part chunk.old to (part_of chunk.old from size) }
 {
     let used = (chunk.cursor - chunk.base) as usize;
     let place = chunk.bytes.part_mut(used, chunk.bytes.len() - used);

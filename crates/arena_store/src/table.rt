@@ -3,12 +3,11 @@ ghost use Rattle.std.specs.Prelude.{◌≡◌, ◌+◌, ◌-◌, ◌*◌, ◌^�
 ghost use Rattle.std.specs.Borrow.{sem};
 ghost use Rattle.std.specs.List.{All, list_any, sum_by};
 ghost use Rattle.arena_rules.specs.State.{used_length, is_used_by};
-ghost use Rattle.arena_rules.specs.Lists.{splice};
-ghost use Rattle.arena_region.specs.Bytes.{bytes};
+ghost use Rattle.arena_region.specs.Bytes.{bytes, written_from};
 ghost use Rattle.arena_store.specs.Copies.{HasBytes, CopiesKept};
-ghost use Rattle.arena_store.specs.Stored.{stored_chunk, IsOrdered, IsSearchable, IsLastBelow, IsTopmost, HasPart, CopiesPart};
+ghost use Rattle.arena_store.specs.Stored.{stored_chunk, oldest, IsOrdered, IsOldest, IsTopmost, HasPartIn, part_in, with_part_in};
 
-use crate::below::{base, search, split};
+use crate::below::{base, last_below, search};
 use crate::block::Block;
 use crate::chunk::StoredChunk;
 use crate::shift::shift;
@@ -34,9 +33,10 @@ pub struct Used<'a> {
     pub bytes: &'a [u8],
 }
 
-/// The chunks but the newest, oldest first. Contracts see them as a list, with the spare capacity.
+/// The chunks but the newest. Contracts see them as a list, newest first, with the spare capacity.
 #[derive(Drop)]
 pub struct Table {
+    // Oldest first, so that the bases increase.
     bases: Bases,
     kept: Vec<Kept>,
 }
@@ -55,7 +55,7 @@ impl Model for Table {
 }
 
 impl Table {
-    ghost use Rattle.arena_store.specs.Table.{IsPartIn, IsNumberIn};
+    ghost use Rattle.arena_store.specs.Table.{IsKept, chunk_of, number_in};
     ghost use Rattle.arena_store.specs.Lends.{LendsPartIn};
 
     /// Returns an empty table. Doesn't allocate.
@@ -85,7 +85,7 @@ impl Table {
         requires room { 1 ≤ self.old.spare }
         requires ordered { IsOrdered chunk }
         requires above { IsTopmost chunk.base self.old.items }
-        ensures { self.new.items ≡ self.old.items ++ chunk ∷ [] }
+        ensures { self.new.items ≡ chunk ∷ self.old.items }
     {
         let used = chunk.used();
         let StoredChunk {
@@ -110,13 +110,12 @@ impl Table {
         *self.kept.allocator()
     }
 
-    /// Frees all but the first `n` chunks, and returns the last of those, which leaves the table.
+    /// Frees all but the `n` oldest chunks, and returns the newest of those, which leaves the table.
     pub fn back_to(&mut self, n: usize) -> StoredChunk
         requires some { 0 < n }
         requires within { n ≤ length self.old.items }
         requires ordered { All IsOrdered self.old.items }
-        ensures items { self.new.items ≡ take (n - 1) self.old.items }
-        ensures chunk { (d : StoredChunk) → result ≡ get_or self.old.items (n - 1) d }
+        ensures { oldest n self.old.items ≡ result ∷ self.new.items }
     {
         let base = base(&self.bases, n as u64 - 1);
         self.bases.truncate(n as u64 - 1);
@@ -137,30 +136,10 @@ impl Table {
         self.kept.len()
     }
 
-    /// Returns the index of the last chunk that begins at or below the address.
-    #[inline]
-    pub fn last_below(&self, addr: u64) -> usize
-        requires { IsSearchable self.now.items addr }
-        ensures { IsLastBelow self.now.items addr result }
-    {
-        (split(&self.bases, addr) - 1) as usize
-    }
-
-    /// Returns what `last_below` does. It is kept out of line, so that a write in the newest chunk is small enough to
-    /// be inlined.
-    #[cold]
-    #[inline(never)]
-    pub fn find(&self, addr: u64) -> usize
-        requires { IsSearchable self.now.items addr }
-        ensures { IsLastBelow self.now.items addr result }
-    {
-        self.last_below(addr)
-    }
-
-    /// Returns the index of the chunk that has an address, from its base to its data end, or `None`. Each read of a
-    /// base counts one step.
+    /// Returns the number of the chunk that has an address, from its base to its data end, or `None`: from 0, oldest
+    /// first. Each read of a base counts one step.
     pub fn number_of<L: Ledger>(&self, addr: u64, steps: &mut Steps<L>) -> Option<u64>
-        ensures number { IsNumberIn self.now.items addr result }
+        ensures number { result ≡ number_in addr self.now.items }
         ensures rises { steps.old ≤ steps.new }
         ensures cost { 2 ^ (steps.new - steps.old) ≤ 2 * length self.now.items + 1 }
     {
@@ -176,51 +155,63 @@ impl Table {
         }
     }
 
-    /// Returns a chunk's bytes at these addresses, which must be used.
+    /// Returns the bytes at these addresses, which must be used.
     #[inline]
-    pub fn part(&self, i: usize, addr: u64, size: u64) -> &[u8]
-        requires { HasPart self.now.items i addr size }
-        ensures { IsPartIn self.now.items i addr size result.now }
+    pub fn bytes(&self, addr: u64, n: u64) -> &[u8]
+        requires { HasPartIn self.now.items addr n }
+        ensures { result.now ≡ part_in self.now.items addr n }
     {
-        let from = (addr - base(&self.bases, i as u64)) as usize;
-        self.kept[i].bytes.part(from, size as usize)
+        let (i, from) = last_below(&self.bases, addr);
+        self.kept[i].bytes.part(from, n as usize)
     }
 
-    /// Returns a chunk's bytes at these addresses, which must be used, for writing. What is written there is in the
-    /// chunk afterwards.
-    #[inline]
-    pub fn part_mut(&mut self, i: usize, addr: u64, size: u64) -> &mut [u8]
-        requires { HasPart self.old.items i addr size }
-        ensures* writes_back { sem 𝓛 (LendsPartIn self.entry i addr result) }
-        ensures value { IsPartIn self.old.items i addr size result.now }
+    /// Returns the bytes at these addresses, which must be used, for writing. What is written there is in the chunk
+    /// afterwards. It is kept out of line, so that a write in the newest chunk is small enough to be inlined.
+    #[cold]
+    #[inline(never)]
+    pub fn bytes_mut(&mut self, addr: u64, n: u64) -> &mut [u8]
+        requires { HasPartIn self.old.items addr n }
+        ensures* writes_back { sem 𝓛 (LendsPartIn self.entry addr result) }
+        ensures value { result.now ≡ part_in self.old.items addr n }
     {
-        let from = (addr - base(&self.bases, i as u64)) as usize;
-        self.kept[i].bytes.part_mut(from, size as usize)
+        let (i, from) = last_below(&self.bases, addr);
+        self.kept[i].bytes.part_mut(from, n as usize)
     }
 
-    /// Copies used bytes of a chunk into the used part of another or the same. The two ranges may overlap.
-    pub fn copy_within(&mut self, i: usize, j: usize, from: u64, to: u64, n: u64)
-        requires source { HasPart self.old.items i from n }
-        requires target { HasPart self.old.items j to n }
-        ensures { CopiesPart self.old.items self.new.items i j from to n }
+    /// Copies used bytes to a used place. The two ranges may overlap.
+    pub fn copy(&mut self, from: u64, to: u64, n: u64)
+        requires source { HasPartIn self.old.items from n }
+        requires target { HasPartIn self.old.items to n }
+        ensures { self.new.items ≡ with_part_in self.old.items to (part_in self.old.items from n) }
     {
-        let source = (from - base(&self.bases, i as u64)) as usize;
-        let target = (to - base(&self.bases, j as u64)) as usize;
+        let (i, source) = last_below(&self.bases, from);
+        let (j, target) = last_below(&self.bases, to);
         copy_kept(&mut self.kept, i, j, source, target, n as usize);
     }
 
-    /// Returns the used part of a chunk.
+    // Returns the base of a chunk and the rest of it, by its number.
+    #[inline]
+    fn chunk(&self, i: usize) -> (u64, &Kept)
+        requires index { i < length self.now.items }
+        requires ordered { All IsOrdered self.now.items }
+        ensures chunk { IsOldest self.now.items i (chunk_of result.0 result.1.now) }
+        ensures used { IsKept result.1.now }
+        ensures ordered { IsOrdered (chunk_of result.0 result.1.now) }
+    {
+        (base(&self.bases, i as u64), &self.kept[i])
+    }
+
+    /// Returns the used part of a chunk, by its number.
     pub fn used_part(&self, i: usize) -> Used<'_>
         requires index { i < length self.now.items }
         requires ordered { All IsOrdered self.now.items }
-        ensures { (c : StoredChunk) → c ≡ get_or self.now.items i c
-            → (result.base ≡ c.base) × (result.start ≡ c.cursor)
+        ensures { (c : StoredChunk) × IsOldest self.now.items i c
+            × (result.base ≡ c.base) × (result.start ≡ c.cursor)
             × (result.bytes.now ≡ drop (c.cursor - c.base) c.bytes.items) }
     {
-        let kept = &self.kept[i];
+        let (base, kept) = self.chunk(i);
         let len = kept.bytes.len();
         let from = len - kept.used as usize;
-        let base = base(&self.bases, i as u64);
         Used {
             base,
             start: base + from as u64,
@@ -228,17 +219,15 @@ impl Table {
         }
     }
 
-    /// Returns the base and the data end of a chunk.
+    /// Returns the base and the data end of a chunk, by its number.
     pub fn ends(&self, i: usize) -> (u64, u64)
         requires index { i < length self.now.items }
         requires ordered { All IsOrdered self.now.items }
-        ensures { (c : StoredChunk) → c ≡ get_or self.now.items i c
-            → (result.0 ≡ c.base) × (result.1 ≡ c.base + length c.bytes.items) }
+        ensures { (c : StoredChunk) × IsOldest self.now.items i c
+            × (result.0 ≡ c.base) × (result.1 ≡ c.base + length c.bytes.items) }
     {
-        let kept = &self.kept[i];
-        let len = kept.bytes.len() as u64;
-        let start = base(&self.bases, i as u64);
-        (start, start + len)
+        let (start, kept) = self.chunk(i);
+        (start, start + kept.bytes.len() as u64)
     }
 
     /// Returns whether the block's bytes are in the used part of one of the chunks.
@@ -257,12 +246,11 @@ impl Table {
     fn chunk_has(&self, i: usize, block: Block) -> bool
         requires index { i < length self.now.items }
         requires ordered { All IsOrdered self.now.items }
-        ensures { (c : StoredChunk) → c ≡ get_or self.now.items i c
-            → result ≡ is_used_by block.addr block.size (stored_chunk c) }
+        ensures { (c : StoredChunk) × IsOldest self.now.items i c
+            × (result ≡ is_used_by block.addr block.size (stored_chunk c)) }
     {
-        let kept = &self.kept[i];
-        let len = kept.bytes.len() as u64;
-        let end = base(&self.bases, i as u64) + len;
+        let (base, kept) = self.chunk(i);
+        let end = base + kept.bytes.len() as u64;
         lies_in(end - kept.used, end, block)
     }
 
@@ -336,7 +324,7 @@ fn copy_bytes(source: &Region, target: &mut Region, from: usize, to: usize, n: u
     requires low { (source.now.low ≤ from) × (target.old.low ≤ to) }
     requires source { from + n ≤ length source.now.items }
     requires target { to + n ≤ length target.old.items }
-    ensures { target.new ≡ bytes (splice target.old.items to (take n (drop from source.now.items)))
+    ensures { target.new ≡ bytes (written_from target.old.items to (take n (drop from source.now.items)))
         target.old.low }
 {
     target.part_mut(to, n).copy_from_slice(source.part(from, n));

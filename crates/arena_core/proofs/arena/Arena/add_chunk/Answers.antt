@@ -4,8 +4,7 @@ use Rattle.arena_rules.specs.Moves.{with_chunk}
 use Rattle.arena_rules.proofs.RoundingLemmas.{max_power, min_align_power, layout_power}
 use Rattle.arena_store.specs.Memory.{Memory}
 use Rattle.arena_store.specs.declared.chunk.StoredChunk.{StoredChunk}
-use Rattle.arena_core.proofs.StoredLemmas.{newest_ordered}
-use Rattle.arena_core.proofs.GrowthLemmas.{topmost, adds_none, asked_stored, IsRoom, room_stored, IsInstalled, installed}
+use Rattle.arena_core.proofs.GrowthLemmas.{adds_none, asked_stored, IsRoom, room_stored, IsInstalled, installed}
 use Rattle.arena_core.proofs.arena.Arena.add_chunk.Given.{Over}
 use Rattle.arena_core.proofs.arena.Arena.add_chunk.Goals as goal
 
@@ -21,12 +20,6 @@ returns-in_default-clause-added g c =
       added = rw (← all) (rw c.in_default.is at c.ask_above-base.ensures.granted);
       asked = rw (← all) c.ask_above-base.ensures.asked;
     })
-
-pub install-requires-clause-ordered : goal.install-requires-clause-ordered
-install-requires-clause-ordered g c = newest_ordered g.row.MIN_ALIGN c.self.inside c.self.invariant
-
-pub install-requires-clause-above : goal.install-requires-clause-above
-install-requires-clause-above g c = rw c.reserve.ensures.items (topmost g.row.MIN_ALIGN c.self.inside c.self.invariant)
 
 pub install-requires-clause-fits : goal.install-requires-clause-fits
 install-requires-clause-fits g c =

@@ -1,6 +1,6 @@
 use Rattle.std.proofs.Common.{arith, ap, length}
 use Rattle.arena_rules.specs.State.{Chunk}
-use Rattle.arena_core.proofs.StoredLemmas.{sum_all, sum_has}
+use Rattle.arena_core.proofs.StoredLemmas.{sum_has}
 use Rattle.arena_core.proofs.arena.Arena.allocated_bytes.Goals as goal
 
 pub size-requires-2 : goal.size-requires-2
@@ -18,14 +18,4 @@ overflow_add-result g c =
       c.size-2.ensures,
       sum_has g.row.MIN_ALIGN c.self.inside (λ (chunk : Chunk). chunk.size) c.self.invariant
           (λ none. ap length (c.self.invariant.none none).bytes) (λ chunk fine. omega arith),
-    )
-
-pub returns-clause-value : goal.returns-clause-value
-returns-clause-value g c =
-    omega (
-      arith,
-      c.size.ensures,
-      c.size-2.ensures,
-      sum_all g.row.MIN_ALIGN c.self.inside c.args.self.now (λ (chunk : Chunk). chunk.size) c.self.invariant c.self.view_is
-          (λ none. ap length (c.self.invariant.none none).bytes),
     )

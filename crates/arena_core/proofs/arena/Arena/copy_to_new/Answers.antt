@@ -3,10 +3,9 @@ use Rattle.arena_store.specs.Memory.{Memory, image, bytes_from, written}
 use Rattle.arena_core.specs.Adding.{placed_at}
 use Rattle.arena_core.specs.Resizes.{replaced}
 use Rattle.arena_core.proofs.FrameLemmas.{bytes_moved}
-use Rattle.arena_core.proofs.StoredListLemmas.{readable_part}
+use Rattle.arena_core.proofs.ReadableLemmas.{readable_part}
 use Rattle.arena_core.proofs.AllocationLemmas.{block_placed}
-use Rattle.arena_core.proofs.ResizedLemmas.{resized_anew, resized_none}
-use Rattle.arena_store.specs.declared.block.ArenaErr.TheVariants.{AllocErr, OutOfMemory}
+use Rattle.arena_core.proofs.ResizedLemmas.{resized_anew}
 use Rattle.arena_core.proofs.arena.Arena.copy_to_new.Goals as goal
 
 pub place_copy_at-requires : goal.place_copy_at-requires
@@ -26,9 +25,6 @@ place_copy_at-requires g c =
       ),
     )
 
-pub count_move-requires : goal.count_move-requires
-count_move-requires g c = rw c.place_copy_at.ensures.statistics (omega arith)
-
 pub returns-in-Ok : goal.returns-in-Ok
 returns-in-Ok g c =
     let found = c.in-Ok.ensures.found in
@@ -44,14 +40,3 @@ returns-in-Ok g c =
     (ap (λ (w : Memory). w.state) c.count_move.ensures ∙ c.place_copy_at.ensures.state)
     (ap (λ (w : Memory). w.statistics) c.count_move.ensures ∙ ap replaced c.place_copy_at.ensures.statistics)
     (λ p. ap (λ (w : Memory). image w p) c.count_move.ensures ∙ rw c.requires.n at (bytes p))
-
-pub returns-in-Err-AllocErr : goal.returns-in-Err-AllocErr
-returns-in-Err-AllocErr g c =
-    rw c.in-Err-AllocErr.refused-is
-    (resized_none _ _ c.args.block c.args.layout.size c.args.layout.align (AllocErr c.in-Err-AllocErr.refused)
-    (rw c.in-Err-AllocErr.field-0-is at c.in-Err-AllocErr.ensures.refused))
-
-pub returns-in-Err-OutOfMemory : goal.returns-in-Err-OutOfMemory
-returns-in-Err-OutOfMemory g c =
-    resized_none _ _ c.args.block c.args.layout.size c.args.layout.align OutOfMemory
-    (rw c.in-Err-OutOfMemory.field-0-is at c.in-Err-OutOfMemory.ensures.refused)

@@ -1,7 +1,6 @@
-use Rattle.std.proofs.Common.{◌-◌, ◌≤◌, ◌<◌, true, false, arith, length, ne_eqb, ◌∙◌, ap}
-use Rattle.std.specs.Prelude.{Some}
+use Rattle.std.proofs.Common.{◌-◌, ◌<◌, false, arith, length, ne_eqb}
 use Rattle.std.proofs.lemmas.Bool.Decides.{nat_tests}
-use Rattle.arena_core.proofs.FindingLemmas.{older_number, newest_number, no_number, table_below}
+use Rattle.arena_core.proofs.FindingLemmas.{older_number, newest_number}
 use Rattle.arena_core.proofs.arena.Arena.find_chunk.Goals as goal
 
 pub returns-then-addr-self-clause-number : goal.returns-then-addr-self-clause-number
@@ -9,24 +8,9 @@ returns-then-addr-self-clause-number g c =
     older_number g.row.MIN_ALIGN c.self.inside c.args.self.now c.args.addr _ c.self.invariant c.self.view_is c.if-addr-self.true
     c.number_of.ensures.number
 
-pub returns-then-addr-self-clause-cost : goal.returns-then-addr-self-clause-cost
-returns-then-addr-self-clause-cost g c =
-    omega (arith, c.number_of.ensures.cost, table_below g.row.MIN_ALIGN c.self.inside c.args.self.now c.self.invariant c.self.view_is)
-
-pub returns-then-self-eq-NOWHERE-clause-number : goal.returns-then-self-eq-NOWHERE-clause-number
-returns-then-self-eq-NOWHERE-clause-number g c =
-    no_number g.row.MIN_ALIGN c.self.inside c.args.self.now c.args.addr c.self.invariant c.self.view_is c.if-self-eq-NOWHERE.true
-
 pub returns-then-addr-self-2-clause-number : goal.returns-then-addr-self-2-clause-number
 returns-then-addr-self-2-clause-number g c =
     let past : length c.self.inside.newest.bytes.items < c.args.addr - c.self.inside.newest.base =
     omega (arith, c.if-addr-self-2.true, c.size.ensures) in
     newest_number g.row.MIN_ALIGN c.self.inside c.args.self.now c.args.addr false c.self.invariant c.self.view_is
     (omega (arith, c.if-addr-self.false)) (ne_eqb _ _ c.if-self-eq-NOWHERE.false) (grind (arith, nat_tests))
-
-pub returns-clause-number : goal.returns-clause-number
-returns-clause-number g c =
-    let within : c.args.addr - c.self.inside.newest.base ≤ length c.self.inside.newest.bytes.items =
-    omega (arith, c.if-addr-self-2.false, c.size.ensures) in
-    ap Some c.len.ensures.value ∙ newest_number g.row.MIN_ALIGN c.self.inside c.args.self.now c.args.addr true c.self.invariant
-    c.self.view_is (omega (arith, c.if-addr-self.false)) (ne_eqb _ _ c.if-self-eq-NOWHERE.false) (grind (arith, nat_tests))

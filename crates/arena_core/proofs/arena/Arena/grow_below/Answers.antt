@@ -1,4 +1,4 @@
-use Rattle.std.proofs.Common.{◌≡◌, ◌∙◌, ℕ, ◌-◌, ap, subst, arith, IsTrue, Some, None}
+use Rattle.std.proofs.Common.{◌≡◌, ◌∙◌, ℕ, ◌-◌, ap, subst, arith, IsTrue, Some}
 use Rattle.arena_rules.specs.Rounding.{up, is_layout}
 use Rattle.arena_rules.specs.State.{IsValid, cursor_of, with_cursor}
 use Rattle.arena_rules.specs.Search.{place}
@@ -6,7 +6,7 @@ use Rattle.arena_rules.proofs.CursorLemmas.{start_set, cursor_set}
 use Rattle.arena_store.specs.Memory.{Memory}
 use Rattle.arena_core.proofs.StoredLemmas.{view_with, place_stored, cursor_moved, cursor_view}
 use Rattle.arena_core.proofs.AllocationLemmas.{place_cursor}
-use Rattle.arena_rules.proofs.ResizeSteps.{IsHere, grows_full, grows_down}
+use Rattle.arena_rules.proofs.ResizeSteps.{IsHere, grows_down}
 use Rattle.arena_core.proofs.ResizedLemmas.{block_in}
 use Rattle.arena_core.proofs.CursorMoveLemmas.{is_grown, grown_used, grown_answer}
 use Rattle.arena_core.proofs.arena.Arena.grow_below.Goals as goal
@@ -77,15 +77,3 @@ returns-in-Some g c =
     c.requires.size c.args.layout.valid way view
     c.move_down.ensures.state c.move_down.ensures.statistics c.move_down.ensures.bytes
     (rw c.move_down.ensures.state (ap (λ (p : ℕ). block_in mid.state p c.args.layout.size c.args.layout.align) at))
-
--- There is no room for the growth.
-pub returns-in-None : goal.returns-in-None
-returns-in-None g c =
-    let here : IsHere c.args.self.now.state c.args.block.addr c.args.block.size c.args.block.align c.args.layout.size c.args.layout.align =
-    record { low = c.requires.align; at = c.requires.last } in
-    let none = place_stored g.row.MIN_ALIGN c.self.inside c.args.self.now c.args.below.size c.args.below.align None c.self.invariant
-    c.self.view_is c.in-None.ensures in
-    let way = grows_full c.args.self.now.state c.args.block.addr c.args.block.size c.args.block.align c.args.layout.size c.args.layout.align
-    here
-    (rw (← c.requires.below, ← c.requires.below_align) c.args.below.valid) (rw (← c.requires.below, ← c.requires.below_align) none) in
-    rw way c.copy_to_new.ensures

@@ -1,30 +1,16 @@
-use Rattle.std.proofs.Common.{◌≡◌, ℕ, ◌-◌, ◌<◌, ◌⊎◌, ◌∙◌, inl, inr, ap, sym, subst, arith, IsTrue, Some}
+use Rattle.std.proofs.Common.{◌≡◌, ℕ, ◌-◌, ◌∙◌, ap, sym, subst, arith, IsTrue, Some}
 use Rattle.arena_rules.specs.Rounding.{up, is_layout}
-use Rattle.arena_rules.specs.State.{cursor_of, IsValid}
+use Rattle.arena_rules.specs.State.{IsValid}
 use Rattle.arena_rules.specs.Search.{place}
 use Rattle.arena_rules.proofs.RoundingLemmas.{min_align_power, min_align_positive, min_align_le, layout_small, up_ge}
 use Rattle.arena_store.specs.Memory.{Memory}
 use Rattle.arena_rules.proofs.CursorLemmas.{start_set}
 use Rattle.arena_core.proofs.StoredLemmas.{cursor_stored, place_ready, cursor_moved, cursor_view}
 use Rattle.arena_core.proofs.AllocationLemmas.{place_cursor}
-use Rattle.arena_rules.proofs.ResizeSteps.{grows_by_alloc, IsHere, grows_down, grows_not}
+use Rattle.arena_rules.proofs.ResizeSteps.{IsHere, grows_down, grows_not}
 use Rattle.arena_core.proofs.ResizedLemmas.{resized_not}
 use Rattle.arena_core.proofs.CursorMoveLemmas.{is_grown, grown_used, grown_answer}
 use Rattle.arena_core.proofs.arena.Arena.grow_counted.Goals as goal
-use Rattle.arena_core.proofs.arena.Arena.grow_counted.Goals.{then-block-layout-via-then-block-layout, then-block-layout-via-else-block-layout+then-block-self}
-
-pub returns-then-block-layout : goal.returns-then-block-layout
-returns-then-block-layout g c =
-    let away : (c.args.block.align < c.args.layout.align) ⊎ (c.args.block.addr ≡ cursor_of c.args.self.now.state.chunks → ⊥) =
-    elim c.then-block-layout.branch [
-      | then-block-layout-via-then-block-layout w ↦ inl w.if-block-layout.true
-      | then-block-layout-via-else-block-layout+then-block-self w ↦
-          inr (λ same. w.if-block-self.true (same ∙ sym
-          (cursor_stored g.row.MIN_ALIGN c.self.inside c.args.self.now c.self.invariant c.self.view_is)))
-    ] in
-    let way = grows_by_alloc c.args.self.now.state c.args.block.addr c.args.block.size c.args.block.align c.args.layout.size c.args.layout.align
-    away in
-    rw (c.slow_block.ensures, way) c.copy_to_new-slow.ensures
 
 pub round_up_to_unchecked-requires-clause-power : goal.round_up_to_unchecked-requires-clause-power
 round_up_to_unchecked-requires-clause-power g c = min_align_power g.row.MIN_ALIGN c.self.invariant.valid.min_align
@@ -120,11 +106,3 @@ returns-in-Some-place g c =
     c.move_down.ensures.state c.move_down.ensures.statistics c.move_down.ensures.bytes c.move_down.ensures.block
 
 -- ---- Further down, or by a new allocation
-
-pub grow_below-slow-requires : goal.grow_below-slow-requires
-grow_below-slow-requires g c =
-    let at = c.if-block-self.false ∙ cursor_stored g.row.MIN_ALIGN c.self.inside c.args.self.now c.self.invariant c.self.view_is in
-    let size : c.in-Some.below.size ≡ up c.args.layout.size c.args.self.now.state.min_align - c.args.block.size =
-    c.in-Some.ensures.value.0 ∙ ap (λ (n : ℕ). n - c.args.block.size)
-    (c.round_up_to_unchecked.ensures ∙ ap (λ (w : Memory). up c.args.layout.size w.state.min_align) c.self.view_is) in
-    (omega arith, (c.requires.readable, (c.requires.size, (c.if-block-layout.false, (at, (size, c.in-Some.ensures.value.1))))))

@@ -1,8 +1,7 @@
-use Rattle.std.proofs.Common.{◌≤◌, ap, sym, arith, length}
-use Rattle.arena_store.specs.Memory.{image, bytes_from}
+use Rattle.std.proofs.Common.{ap, sym, arith, length}
+use Rattle.arena_store.specs.Memory.{image}
 use Rattle.arena_store.proofs.BytesLemmas.{no_bytes, written_none}
-use Rattle.arena_core.proofs.StoredLemmas.{start_stored}
-use Rattle.arena_core.proofs.PartLemmas.{newest_part, is_move, newest_moved, IsWritten}
+use Rattle.arena_core.proofs.PartLemmas.{newest_part, newest_bytes, newest_lent, is_move, moved, IsMoved}
 use Rattle.arena_core.proofs.arena.Arena.move_in_newest.Given.{Over}
 use Rattle.arena_core.proofs.arena.Arena.move_in_newest.Goals as goal
 
@@ -11,36 +10,25 @@ returns-then-n-eq0-clause-bytes g c =
     λ p. sym (written_none (image c.args.self.now) c.args.to p
     _ (ap length (no_bytes (image c.args.self.now) c.args.from c.args.n c.if-n-eq0.true)))
 
-pub shift_in-requires-clause-low : goal.shift_in-requires-clause-low
-shift_in-requires-clause-low g c =
-    let move = is_move g.row.MIN_ALIGN c.self.inside c.args.self.now c.args.from c.args.to c.args.n c.self.invariant c.self.view_is
-    c.requires.source c.requires.target c.requires.newest.1 c.if-n-eq0.false in
-    let low : c.self.inside.newest.base ≤ c.args.from =
-    omega (arith, start_stored g.row.MIN_ALIGN c.self.inside c.args.self.now c.self.invariant c.self.view_is, c.requires.newest.0) in
-    ((newest_part _ _ _ _ _ move.source low).used, (newest_part _ _ _ _ _ move.target move.above).used)
-
 pub shift_in-requires-clause-source : goal.shift_in-requires-clause-source
 shift_in-requires-clause-source g c =
     let move = is_move g.row.MIN_ALIGN c.self.inside c.args.self.now c.args.from c.args.to c.args.n c.self.invariant c.self.view_is
-    c.requires.source c.requires.target c.requires.newest.1 c.if-n-eq0.false in
-    let low : c.self.inside.newest.base ≤ c.args.from =
-    omega (arith, start_stored g.row.MIN_ALIGN c.self.inside c.args.self.now c.self.invariant c.self.view_is, c.requires.newest.0) in
-    omega (arith, (newest_part _ _ _ _ _ move.source low).high, low)
+    c.requires.source c.requires.target c.requires.newest c.if-n-eq0.false in
+    newest_part _ _ _ _ _ move.source move.low
 
 pub shift_in-requires-clause-target : goal.shift_in-requires-clause-target
 shift_in-requires-clause-target g c =
     let move = is_move g.row.MIN_ALIGN c.self.inside c.args.self.now c.args.from c.args.to c.args.n c.self.invariant c.self.view_is
-    c.requires.source c.requires.target c.requires.newest.1 c.if-n-eq0.false in
-    omega (arith, (newest_part _ _ _ _ _ move.target move.above).high, move.above)
+    c.requires.source c.requires.target c.requires.newest c.if-n-eq0.false in
+    newest_part _ _ _ _ _ move.target move.above
 
-in_newest : (g : Over) (c : goal.After-shift_in g) → IsWritten g.row.MIN_ALIGN c.self.inside c.args.self.now c.args.to c.args.n
-    (bytes_from (image c.args.self.now) c.args.from c.args.n) c.shift_in.new.chunk c.self.inside.older.items
+in_newest : (g : Over) (c : goal.After-shift_in g)
+    → IsMoved g.row.MIN_ALIGN c.self.inside c.args.self.now c.args.from c.args.to c.args.n c.shift_in.new.chunk c.self.inside.older.items
 in_newest g c =
     let move = is_move g.row.MIN_ALIGN c.self.inside c.args.self.now c.args.from c.args.to c.args.n c.self.invariant c.self.view_is
-    c.requires.source c.requires.target c.requires.newest.1 c.if-n-eq0.false in
-    let low : c.self.inside.newest.base ≤ c.args.from =
-    omega (arith, start_stored g.row.MIN_ALIGN c.self.inside c.args.self.now c.self.invariant c.self.view_is, c.requires.newest.0) in
-    newest_moved _ _ _ _ _ _ _ c.shift_in.new.chunk move (newest_part _ _ _ _ _ move.source low).bytes c.shift_in.ensures
+    c.requires.source c.requires.target c.requires.newest c.if-n-eq0.false in
+    rw c.shift_in.ensures (moved _ _ _ _ _ _ _ _ _ (newest_bytes _ _ _ _ _ move.source move.low)
+    (newest_lent _ _ _ _ _ _ move.target move.above))
 
 pub invariant_of-self : goal.invariant_of-self
 invariant_of-self g c = (in_newest g c).stored

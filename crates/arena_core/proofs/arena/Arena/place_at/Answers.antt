@@ -1,16 +1,9 @@
-use Rattle.std.proofs.Common.{subst, arith}
+use Rattle.std.proofs.Common.{subst}
 use Rattle.arena_rules.specs.State.{IsValid}
 use Rattle.arena_store.specs.Memory.{Memory}
-use Rattle.arena_core.proofs.StoredLemmas.{start_stored, cursor_moved}
-use Rattle.arena_core.proofs.AllocationLemmas.{place_cursor, placed_view}
+use Rattle.arena_core.proofs.StoredLemmas.{cursor_moved}
+use Rattle.arena_core.proofs.AllocationLemmas.{place_cursor}
 use Rattle.arena_core.proofs.arena.Arena.place_at.Goals as goal
-
-pub make_ready-requires : goal.make_ready-requires
-make_ready-requires g c =
-    let valid = subst (λ (w : Memory). IsValid w.state) c.self.view_is c.self.invariant.valid in
-    let cursor = place_cursor c.args.self.now.state c.args.layout.size c.args.layout.align c.args.addr valid c.args.layout.valid c.requires
-    in
-    omega (arith, start_stored g.row.MIN_ALIGN c.self.inside c.args.self.now c.self.invariant c.self.view_is, cursor.low)
 
 pub invariant_of-self : goal.invariant_of-self
 invariant_of-self g c =
@@ -20,8 +13,3 @@ invariant_of-self g c =
     c.count_one.new.count c.self.inside.reallocations c.self.invariant c.self.view_is
     (place_cursor c.args.self.now.state c.args.layout.size c.args.layout.align c.args.addr valid c.args.layout.valid c.requires)
     c.self.invariant.valid.generation made.ready)
-
-pub returns : goal.returns
-returns g c =
-    rw c.make_ready.ensures.chunk (placed_view g.row.MIN_ALIGN c.self.inside c.args.self.now c.args.addr c.make_ready.ensures.low
-    c.count_one.new.count c.self.view_is (omega arith))

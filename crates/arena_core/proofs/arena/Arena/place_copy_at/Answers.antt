@@ -1,23 +1,25 @@
-use Rattle.std.proofs.Common.{◌≡◌, ℕ, ◌∙◌, ap, subst, length, arith}
+use Rattle.std.proofs.Common.{◌≡◌, ℕ, ◌∙◌, ap, subst, length, arith, inl, inr}
 use Rattle.arena_rules.specs.State.{IsValid}
 use Rattle.arena_rules.proofs.CursorLemmas.{start_set}
 use Rattle.arena_store.specs.Memory.{Memory, image, bytes_from, written}
 use Rattle.arena_core.specs.Adding.{placed_at}
 use Rattle.arena_store.proofs.BytesLemmas.{length-bytes}
 use Rattle.arena_core.proofs.FrameLemmas.{bytes_moved}
-use Rattle.arena_core.proofs.PartLemmas.{searchable, found}
 use Rattle.arena_core.proofs.AllocationLemmas.{place_cursor}
-use Rattle.arena_core.proofs.CopiedLemmas.{placed_used, IsCopying, moves, placed_fits, IsCopied, copied}
+use Rattle.arena_core.proofs.StoredLemmas.{start_stored}
+use Rattle.arena_core.proofs.PartLemmas.{newest_part, older_part, older_bytes}
+use Rattle.arena_core.proofs.CopiedLemmas.{placed_used, copying, IsCopied, copied}
 use Rattle.arena_core.proofs.arena.Arena.place_copy_at.Given.{Over}
 use Rattle.arena_core.proofs.arena.Arena.place_copy_at.Goals as goal
 
 -- ---- From the newest chunk
 
-pub move_bytes-requires : goal.move_bytes-requires
-move_bytes-requires g c =
+pub move_in_newest-requires : goal.move_in_newest-requires
+move_in_newest-requires g c =
     let valid = subst (λ (w : Memory). IsValid w.state) c.self.view_is c.self.invariant.valid in
     let at = place_cursor c.args.self.now.state c.args.layout.size c.args.layout.align c.args.addr valid c.args.layout.valid
     c.requires.place in
+    let start = start_set c.args.addr c.args.self.now.state.chunks in
     rw c.place_at.ensures (
       omega arith,
       (
@@ -25,85 +27,48 @@ move_bytes-requires g c =
         (
           λ some. placed_used c.args.self.now c.args.layout.size c.args.layout.align c.args.addr c.args.n valid c.args.layout.valid
               c.requires.place some c.requires.fits,
-          omega (arith, at.low, start_set c.args.addr c.args.self.now.state.chunks),
+          λ some. elim c.then-n-eq0.either [
+            | inl none ↦ absurd (omega (arith, some, none))
+            | inr newest ↦ (
+              omega (arith, newest.1, start, start_stored g.row.MIN_ALIGN c.self.inside c.args.self.now c.self.invariant c.self.view_is),
+              omega (arith, at.low, start),
+            )
+          ],
         ),
       ),
     )
 
 pub returns-then-n-eq0-clause-bytes : goal.returns-then-n-eq0-clause-bytes
 returns-then-n-eq0-clause-bytes g c =
-    subst (λ (f : ℕ → ℕ). (p : ℕ) → image c.move_bytes.new.self p ≡ written f c.args.addr (bytes_from f c.args.from c.args.n) p)
-    (ap image c.place_at.ensures ∙ bytes_moved c.args.addr c.args.self.now.state.chunks c.args.self.now.bytes) c.move_bytes.ensures.bytes
+    subst (λ (f : ℕ → ℕ). (p : ℕ) → image c.move_in_newest.new.self p ≡ written f c.args.addr (bytes_from f c.args.from c.args.n) p)
+    (ap image c.place_at.ensures ∙ bytes_moved c.args.addr c.args.self.now.state.chunks c.args.self.now.bytes) c.move_in_newest.ensures.bytes
 
 -- ---- From an older one
 
-pub find-i-requires : goal.find-i-requires
-find-i-requires g c =
-    let is : IsCopying g.row.MIN_ALIGN c.self.inside c.args.self.now c.args.layout.size c.args.layout.align c.args.addr c.args.from
-    c.args.n =
-    record {
-      stands = c.self.invariant;
-      view = c.self.view_is;
-      layout = c.args.layout.valid;
-      place = c.requires.place;
-      source = c.requires.source;
-      fits = c.requires.fits;
-      some = c.if-n-eq0.false;
-    } in
-    searchable _ _ _ _ _ (moves _ _ _ _ _ _ _ _ is).source c.if-from-newest.false
-
-pub part-bytes-requires : goal.part-bytes-requires
-part-bytes-requires g c =
-    let is : IsCopying g.row.MIN_ALIGN c.self.inside c.args.self.now c.args.layout.size c.args.layout.align c.args.addr c.args.from
-    c.args.n =
-    record {
-      stands = c.self.invariant;
-      view = c.self.view_is;
-      layout = c.args.layout.valid;
-      place = c.requires.place;
-      source = c.requires.source;
-      fits = c.requires.fits;
-      some = c.if-n-eq0.false;
-    } in
-    (found _ _ _ _ _ _ (moves _ _ _ _ _ _ _ _ is).source c.if-from-newest.false c.find-i.ensures).has
+pub bytes-bytes-requires : goal.bytes-bytes-requires
+bytes-bytes-requires g c =
+    let is = copying g.row.MIN_ALIGN c.self.inside c.args.self.now _ _ c.args.addr c.args.from c.args.n c.self.invariant c.self.view_is c.args.layout.valid c.requires.place
+    c.requires.source c.requires.fits c.if-n-eq0.false in
+    older_part _ _ _ _ _ is.source c.if-from-newest.false
 
 pub make_ready_with-requires-clause-high : goal.make_ready_with-requires-clause-high
 make_ready_with-requires-clause-high g c =
-    let is : IsCopying g.row.MIN_ALIGN c.self.inside c.args.self.now c.args.layout.size c.args.layout.align c.args.addr c.args.from
-    c.args.n =
-    record {
-      stands = c.self.invariant;
-      view = c.self.view_is;
-      layout = c.args.layout.valid;
-      place = c.requires.place;
-      source = c.requires.source;
-      fits = c.requires.fits;
-      some = c.if-n-eq0.false;
-    } in
-    let found_is = found _ _ _ _ _ _ (moves _ _ _ _ _ _ _ _ is).source c.if-from-newest.false c.find-i.ensures in
+    let is = copying g.row.MIN_ALIGN c.self.inside c.args.self.now _ _ c.args.addr c.args.from c.args.n c.self.invariant c.self.view_is c.args.layout.valid c.requires.place
+    c.requires.source c.requires.fits c.if-n-eq0.false in
     omega (
       arith,
-      placed_fits _ _ _ _ _ _ _ _ is,
-      ap length (c.part-bytes.ensures found_is.chunk found_is.at ∙ found_is.older.part.bytes)
+      (newest_part _ _ _ _ _ is.target is.above).high,
+      is.above,
+      ap length (c.bytes-bytes.ensures ∙ older_bytes _ _ _ _ _ is.source c.if-from-newest.false)
           ∙ length-bytes (image (placed_at c.args.self.now c.args.addr)) c.args.from c.args.n,
     )
 
 made : (g : Over) (c : goal.After-count_one g)
-    → IsCopied g.row.MIN_ALIGN c.self.inside c.args.self.now c.args.addr c.args.from c.args.n c.part-bytes.result.now
+    → IsCopied g.row.MIN_ALIGN c.self.inside c.args.self.now c.args.addr c.args.from c.args.n c.bytes-bytes.result.now
 made g c =
-    let is : IsCopying g.row.MIN_ALIGN c.self.inside c.args.self.now c.args.layout.size c.args.layout.align c.args.addr c.args.from
-    c.args.n =
-    record {
-      stands = c.self.invariant;
-      view = c.self.view_is;
-      layout = c.args.layout.valid;
-      place = c.requires.place;
-      source = c.requires.source;
-      fits = c.requires.fits;
-      some = c.if-n-eq0.false;
-    } in
-    let found_is = found _ _ _ _ _ _ (moves _ _ _ _ _ _ _ _ is).source c.if-from-newest.false c.find-i.ensures in
-    copied _ _ _ _ _ _ _ _ c.part-bytes.result.now is (c.part-bytes.ensures found_is.chunk found_is.at ∙ found_is.older.part.bytes)
+    let is = copying g.row.MIN_ALIGN c.self.inside c.args.self.now _ _ c.args.addr c.args.from c.args.n c.self.invariant c.self.view_is c.args.layout.valid c.requires.place
+    c.requires.source c.requires.fits c.if-n-eq0.false in
+    copied _ _ _ _ _ _ _ is (c.bytes-bytes.ensures ∙ older_bytes _ _ _ _ _ is.source c.if-from-newest.false)
 
 pub invariant_of-self : goal.invariant_of-self
 invariant_of-self g c = rw (c.make_ready_with.ensures, c.count_one.ensures) (made g c).stored

@@ -1,4 +1,4 @@
-use Rattle.arena_rules.proofs.ResizeSteps.{shrinks_aligned, shrinks_by_alloc}
+use Rattle.arena_rules.proofs.ResizeSteps.{shrinks_aligned}
 use Rattle.arena_core.proofs.ResizedLemmas.{resized_unasked, shrunk_aligned}
 use Rattle.arena_core.proofs.CursorMoveLemmas.{shrunk_still}
 use Rattle.arena_core.proofs.arena.Arena.shrink_counted.Goals as goal
@@ -19,9 +19,3 @@ returns-then-is_aligned_to-clause-shrunk g c =
     rw c.block_of.ensures.block (resized_unasked _ c.args.self.now c.args.self.now _ c.args.block c.args.layout.size c.args.layout.align _
     (shrunk_aligned _ _ c.args.block c.args.layout.size c.args.layout.align _ is.entry c.args.layout.valid is.resizes.of_layout.of_align
     c.requires.size is.step) is)
-
-pub returns-clause-shrunk : goal.returns-clause-shrunk
-returns-clause-shrunk g c =
-    let way = shrinks_by_alloc c.args.self.now.state c.args.block.addr c.args.block.size c.args.block.align c.args.layout.size
-    c.args.layout.align c.if-layout-block.false (λ aligned. let never = c.if-is_aligned_to.ensures.1 aligned in cc) in
-    rw (c.slow_block.ensures, way) c.copy_to_new-slow.ensures

@@ -1,7 +1,6 @@
 use Rattle.std.proofs.Common.{◌+◌, arith, length}
 use Rattle.arena_store.specs.Memory.{image}
 use Rattle.arena_store.proofs.BytesLemmas.{length-bytes}
-use Rattle.arena_core.proofs.BlockCallLemmas.{edits_to}
 use Rattle.arena_core.proofs.arena.Arena.write.Goals as goal
 
 pub edit-requires : goal.edit-requires
@@ -12,6 +11,3 @@ edit-requires g c = (
     (c.requires.range, length-bytes (image c.args.self.now) (c.args.block.addr + c.args.at) (length c.args.bytes.now)),
   ),
 )
-
-pub returns : goal.returns
-returns g c = edits_to c.args.self.now c.edit.new.self c.args.block c.args.at _ c.args.bytes.now c.edit.ensures

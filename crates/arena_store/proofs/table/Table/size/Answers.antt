@@ -8,7 +8,7 @@ use Rattle.arena_store.proofs.table.Table.size.Goals as goal
 
 pub overflow_add-size : goal.overflow_add-size
 overflow_add-size c =
-    let all = sum_sizes c.self.inside.bases.items c.self.inside.kept.items c.self.invariant.pairs in
+    let all = sum_sizes c.self.inside.bases.items c.self.inside.kept.items c.self.invariant in
     let more = sum_by_more_le (λ (k : Kept). length k.bytes.items) c.deref-kept-items.result.now c.loop-kept.kept-index c.kept-item.result
     c.loop-kept-test.true in
     omega (
@@ -25,7 +25,7 @@ overflow_add-size c =
 
 pub returns : goal.returns
 returns c =
-    let all = sum_sizes c.self.inside.bases.items c.self.inside.kept.items c.self.invariant.pairs in
+    let all = sum_sizes c.self.inside.bases.items c.self.inside.kept.items c.self.invariant in
     let whole = take_all c.loop-kept.kept-index c.deref-kept-items.result.now c.loop-kept-test.false ∙ c.deref-kept-items.ensures.value in
     omega (
       arith,

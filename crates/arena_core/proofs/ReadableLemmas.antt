@@ -1,0 +1,17 @@
+-- A range of a readable block is in use.
+use Rattle.std.proofs.Common.{ℕ, ◌+◌, ◌<◌, ◌≤◌, arith, IsTrue, Bool}
+use Rattle.std.specs.Prelude.{◌==◌, ◌||◌, ◌&&◌}
+use Rattle.std.proofs.lemmas.Bool.Decides.{nat_tests}
+use Rattle.arena_rules.specs.State.{State, is_range_used}
+use Rattle.arena_rules.proofs.UsedLemmas.{used_part}
+use Rattle.arena_store.specs.Memory.{is_readable}
+use Rattle.arena_store.specs.declared.block.Block.{Block}
+
+pub readable_part : (state : State) (block : Block) (p n : ℕ) → IsTrue (is_readable state block) → block.addr ≤ p
+    → p + n ≤ block.addr + block.size → 0 < n → IsTrue (is_range_used state.chunks p n)
+readable_part state block p n readable low high some =
+    used_part block.addr block.size p n state.chunks low high
+    (filled block.size (block.generation == state.generation) (is_range_used state.chunks block.addr block.size) (omega arith) readable)
+  where
+    filled : (n : ℕ) (b c : Bool) → 0 < n → IsTrue (n == 0 || (b && c)) → IsTrue c
+    filled n b c some readable = grind (arith, nat_tests)
