@@ -64,8 +64,8 @@ fn give_findings<C: ChunkSource, F: TakesFindings>(
     walk(alloc, a, &mut known, tree.stmts, room, found)
 }
 
-// Gives the findings in a text to what takes them. Returns its report where that isn't `Checked`; what was given then is
-// of no use.
+// Gives the findings in a text to what takes them. Returns its report where that isn't `Checked`: what was given then
+// is of no use.
 fn lint_with<C: ChunkSource, F: TakesFindings>(
     alloc: Global,
     a: &mut Allocator<C>,

@@ -1,6 +1,6 @@
 -- What it costs to read parts of a text: the children of a sum or a product, one after another, which are appended to
 -- a list, and parts of which one failed.
-use Rattle.std.proofs.Common.{◌≡◌, ℕ, ◌+◌, ◌-◌, ◌<◌, ◌≤◌, arith, sym, subst, Option, Ok, Err, Some, None, List, []}
+use Rattle.std.proofs.Common.{◌≡◌, ℕ, ◌+◌, ◌-◌, ◌<◌, ◌≤◌, arith, sym, subst, Ok, Err, Some, None, List, []}
 use Rattle.std.specs.Prelude.{Result, IsErr, IsErrAnd}
 use Rattle.arena_store.specs.declared.block.Block.{Block}
 use Rattle.arena_chunks.proofs.Layers.{frame_reflexive, frame_then}
@@ -12,7 +12,7 @@ use Rattle.arena_items.specs.declared.room.AllocError.TheVariants as alloc
 use Rattle.arena_tree.specs.Stops.{stop_of, cause, OnText}
 use Rattle.arena_tree.specs.declared.stop.Stop.{Stop}
 use Rattle.arena_tree.specs.declared.stop.Stop.TheVariants.{AllocErr, OutOfMemory, Text}
-use Rattle.arena_tree.specs.Spending.{Spends, Stopped, node_cost, most_for, left_for_node, SpendsUpTo, SpendsAll, SpendsOrNot, SpendsWhole}
+use Rattle.arena_tree.specs.Spending.{Spends, Stopped, node_cost, most_for, left_for_node, SpendsUpTo, SpendsAll}
 use Rattle.tree_nodes.proofs.SpendingLemmas.{spends_nothing, spends_then, spends_more, asks_any, frees}
 
 -- A child is read after others. It may then be negated.
@@ -73,14 +73,6 @@ err_up_to {old} {new} at src = passed_on (SpendsUpTo at src old new)
 pub err_all : {X : Type 0} {old new : View} (at : ℕ) (src : List ℕ) (result : Result (X × ℕ) Stop) (e : Stop)
     → IsPassedOn result e → Stopped at src old new e → SpendsAll at src old new result
 err_all {X} {old} {new} at src = passed_on (SpendsAll at src old new)
-
-pub err_or_not : {old new : View} (at : ℕ) (src : List ℕ) (result : Result (Option ℕ) Stop) (e : Stop)
-    → IsPassedOn result e → Stopped at src old new e → SpendsOrNot at src old new result
-err_or_not {old} {new} at src = passed_on (SpendsOrNot at src old new)
-
-pub err_whole : {X : Type 0} {old new : View} (src : List ℕ) (result : Result X Stop) (e : Stop)
-    → IsPassedOn result e → Stopped 0 src old new e → SpendsWhole src old new result
-err_whole {X} {old} {new} src = passed_on (SpendsWhole src old new)
 
 -- the text is why, there and before
 pub err_text : {X : Type 0} (Y P Q : Type 0) (result : Result X Stop) (e : Stop) → IsPassedOn result e → (P → Q)

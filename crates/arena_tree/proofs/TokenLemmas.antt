@@ -18,7 +18,7 @@ use Rattle.tree_reader.specs.declared.token.Seen.TheVariants as seen
 use Rattle.tree_reader.proofs.JudgeLemmas.{judged_next, ended_next}
 use Rattle.tree_reader.proofs.ByteLemmas.{first_sign}
 use Rattle.arena_tree.specs.Parts.{IsPassed, IsTokenAt, TermsStop, NoFactor, NoClose}
-use Rattle.arena_tree.specs.LineParts.{braces, LinesStop, NoEnd}
+use Rattle.arena_tree.specs.LineParts.{braces, NoEnd}
 
 -- ---- One token
 
@@ -175,14 +175,6 @@ module _ {bytes : List ℕ} {at : ℕ} {l : Lexeme} (n : IsNext bytes at l) wher
       by seen.Minus depth q stop h other = stop.1.1 h
       by seen.RightParen zero q stop h other = not_some q.next q.step_is
       by s depth q stop h other = not_some q.next q.step_is
-
-  -- a block's end
-  pub only_brace : LinesStop (tokens_at bytes at) → (l.seen ≡ seen.RightBrace → ⊥) → ⊥
-  only_brace stop = by l.seen n.seen (subst LinesStop n.tokens_are stop)
-    where
-      by : (s : Seen) → IsSeen s (slice_range bytes l.at l.end) n.token → n.token ≡ RightBrace → (s ≡ seen.RightBrace → ⊥) → ⊥
-      by seen.RightBrace h is other = other refl
-      by s h is other = cc
 
   -- an expression, where no other statement begins
   pub expr_start : (l.seen ≡ seen.RightBrace → ⊥) → (l.seen ≡ seen.LeftBrace → ⊥) → (l.seen ≡ seen.LetKey → ⊥) → (opens : List Open)

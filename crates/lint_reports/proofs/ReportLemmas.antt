@@ -6,7 +6,7 @@ use Rattle.std.proofs.lemmas.Grind.{flat_map-append}
 use Rattle.std.proofs.lemmas.List.Folds.{flat_map-map}
 use Rattle.call_rules.specs.Grammar.{fields, with_feed}
 use Rattle.tree_rules.specs.declared.finding.Finding.{Finding}
-use Rattle.lint_reports.specs.Reports.{finding_line, report_lines, report_text, source_lines, lines_from}
+use Rattle.lint_reports.specs.Reports.{finding_line, report_text, source_lines, lines_from}
 use Rattle.lint_reports.specs.Room.{fed_finding}
 use Rattle.lint_reports.specs.declared.report.FileReport.{FileReport}
 use Rattle.lint_reports.specs.declared.report.FileReport.TheVariants.{Checked}
@@ -36,12 +36,6 @@ findings_put i findings = let source = with_feed (codes "source" ++ fields (i �
     append_assoc source [] (flat_map fed_finding findings) ∙ ap (λ xs. source ++ xs) (finding_lines findings)
 
 -- ---- Reports
-
-pub report_put : (old a new : List ℕ) (i : ℕ) (report : FileReport) → a ≡ old ++ with_feed (codes "source" ++ fields (i ∷ []))
-    → new ≡ a ++ flat_map with_feed (report_lines report) → new ≡ old ++ report_text i report
-report_put old a new i report first rest =
-    rest ∙ ap (λ xs. xs ++ flat_map with_feed (report_lines report)) first
-    ∙ append_assoc old (with_feed (codes "source" ++ fields (i ∷ []))) (flat_map with_feed (report_lines report))
 
 -- the lines of a report and of those after it
 pub reports_more : (i : ℕ) (report : FileReport) (reports : List FileReport)

@@ -270,9 +270,6 @@ refuses_more scripts bytes behind command some other read more =
 
 -- ---- All lines
 
-pub no_scripts : (scripts : List (List Command)) → scripts ≡ [] → AreScripts [] scripts
-no_scripts scripts none = subst (AreScripts []) (sym none) (record { fit = tt; text = refl })
-
 pub first_refused : (bytes rest : List ℕ) (scripts : List (List Command)) (count : ℕ) → Progress AreScripts bytes rest scripts count
     → RefusesLine (IsRefused scripts) rest → IsFirstRefused (lines_of bytes) (count + 1)
 first_refused bytes rest scripts count p r =
