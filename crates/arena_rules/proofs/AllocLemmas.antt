@@ -1,17 +1,52 @@
 -- The ways in which an allocation ends.
-use Rattle.std.proofs.Common.{◌≡◌, ℕ, ◌+◌, ◌-◌, ◌*◌, ◌%◌, ◌≤◌, max, ap, sym, refl, subst, ◌∙◌, arith, IsTrue, Some, None, Option, List, ◌∷◌, true, false, Bool, length, inl, inr, eq-eqb, leb-true}
-use Rattle.std.specs.Prelude.{slice_get, MatchOption, nat_le, ◌==◌}
-use Rattle.std.specs.Option.{option_map}
-use Rattle.std.proofs.lemmas.Bool.{cases_Bool}
-use Rattle.std.proofs.lemmas.Option.{none-some, same_Some, cond_some, slice_get_past}
+use Rattle.std.proofs.Common.{◌≡◌, ℕ, ◌+◌, ◌-◌, ◌*◌, ◌%◌, ◌≤◌, max, ap, sym, refl, subst, ◌∙◌, arith, IsTrue, Some, None, Option, List, ◌∷◌, true, false, Bool, length, inl, inr, eq-eqb, leb-true, eqb-true, []}
+use Rattle.std.specs.Prelude.{slice_get, MatchOption, nat_le, ◌==◌, ◌↔◌, if◌then◌else◌}
+use Rattle.std.specs.Option.{option_map, IsSome}
+use Rattle.std.proofs.lemmas.Bool.{cases_Bool, cond_both}
+use Rattle.std.proofs.lemmas.Option.{none-some, same_Some, cond_some, slice_get_past, slice_get_cases}
 use Rattle.arena_rules.specs.Rounding.{down, is_power}
 use Rattle.arena_rules.specs.State.{State, Chunk, FitsKind, IsValid, start_of, cursor_of, floor_of, newest_size}
 use Rattle.arena_rules.specs.Search.{place, place_below, chunk_align, next_base, asked, asked_above, least_size}
-use Rattle.arena_rules.specs.Moves.{Outcome, alloc, alloc_at, alloc_in_new, placed, fails, with_chunk}
+use Rattle.arena_rules.specs.Moves.{Outcome, alloc, alloc_at, alloc_in_new, placed, fails, with_chunk, unasked}
 use Rattle.arena_rules.proofs.RoundingLemmas.{down_le, up_ge, up_mod, power_positive, power_multiple, max_power, pow_power, min_align_power, min_align_le, min_align_multiple}
 use Rattle.arena_rules.proofs.PlaceLemmas.{IsPlace, is_place, place_found}
 use Rattle.arena_rules.proofs.CursorLemmas.{start_positive, start_set, cursor_set}
 use Rattle.arena_rules.proofs.EntryLemmas.{IsEntry, is_entry}
+use Rattle.arena_rules.proofs.SearchLemmas.{length-entries}
+
+-- ---- What holds in each way in which a call ends
+
+-- a call that asks for nothing
+pub unasked_each : (P : Outcome → Type 0) (k : ℕ) (r outcome : Outcome) → P r → unasked k r ≡ Some outcome → P outcome
+unasked_each P k r outcome holds at = subst P (cond_some (k == 0) r outcome at).1 holds
+
+-- an allocation: in the newest chunk, in a new one, or none
+pub alloc_each : (P : Outcome → Type 0) (state : State) (size align k : ℕ) (outcome : Outcome)
+    → ((p : ℕ) → place state size align ≡ Some p → P (placed state p))
+    → ((e : ℕ × ℕ) (p : ℕ) → place state size align ≡ None → slice_get (asked state size align) k ≡ Some e
+    → place (with_chunk e state) size align ≡ Some p → P (placed (with_chunk e state) p))
+    → (place state size align ≡ None → k ≡ length (asked state size align) → P (fails state))
+    → alloc state size align k ≡ Some outcome → P outcome
+unfolding alloc
+alloc_each P state size align k outcome here new refused = by_place (place state size align) refl
+  where
+    in_chunk : (e : ℕ × ℕ) (o : Option ℕ) → ((p : ℕ) → o ≡ Some p → P (placed (with_chunk e state) p))
+        → option_map (placed (with_chunk e state)) o ≡ Some outcome → P outcome
+    in_chunk e (Some p) each at = subst P (same_Some (placed (with_chunk e state) p) outcome at) (each p refl)
+    in_chunk e None each at = absurd (none-some outcome at)
+
+    by_chunk : (o : Option (ℕ × ℕ)) → place state size align ≡ None → slice_get (asked state size align) k ≡ o
+        → alloc_in_new o state size align k ≡ Some outcome → P outcome
+    by_chunk (Some e) none found at = in_chunk e (place (with_chunk e state) size align) (λ p there. new e p none found there) at
+    by_chunk None none found at =
+        let tested = cond_some (k == length (asked state size align)) (fails state) outcome at in
+        subst P tested.1 (refused none (eqb-true _ _ tested.0))
+
+    by_place : (o : Option ℕ) → place state size align ≡ o → alloc_at o state size align k ≡ Some outcome → P outcome
+    by_place (Some p) found at = unasked_each P k (placed state p) outcome (here p found) at
+    by_place None none at = by_chunk (slice_get (asked state size align) k) none refl at
+
+-- ---- The steps
 
 -- there is a place
 pub alloc_placed : (state : State) (size align p : ℕ) → place state size align ≡ Some p → alloc state size align 0 ≡ Some (placed state p)
@@ -106,6 +141,24 @@ is_granted state size align k e p valid growing power none at is =
       place = is_place e.0 (e.0 + e.1) size align m p (start_positive (with_chunk e state) grown) power valid.min_align found;
     }
 
+-- what holds after an allocation in a valid state holds at a place in the newest chunk, at one in a new chunk, and without one
+pub alloc_valid_each : (P : Outcome → Type 0) (state : State) (size align k : ℕ) (outcome : Outcome) → IsValid state → IsTrue (is_power align)
+    → ((p : ℕ) → place state size align ≡ Some p
+    → IsPlace (start_of state.chunks) (cursor_of state.chunks) size align state.min_align p → P (placed state p))
+    → ((e : ℕ × ℕ) (p : ℕ) → place state size align ≡ None → IsValid (with_chunk e state)
+    → IsPlace e.0 (e.0 + e.1) size align state.min_align p → P (placed (with_chunk e state) p))
+    → (place state size align ≡ None → P (fails state)) → alloc state size align k ≡ Some outcome → P outcome
+alloc_valid_each P state size align k outcome valid power here new failed =
+    alloc_each P state size align k outcome
+    (λ p found. here p found (is_place (start_of state.chunks) (cursor_of state.chunks) size align state.min_align p
+    (start_positive state valid) power valid.min_align found))
+    (λ e p none found there.
+    let growing = growing_of state size align k e found in
+    let grown = valid_grown state size align e valid growing power (entry_of state size align k e growing power found) in
+    new e p none grown (is_place e.0 (e.0 + e.1) size align state.min_align p (start_positive (with_chunk e state) grown) power
+    valid.min_align there))
+    (λ none all. failed none)
+
 -- ---- A block at the cursor, in the newest chunk
 
 abbrev pub IsNewest : Outcome → Type 0
@@ -122,19 +175,48 @@ placed_newest state size align p found =
     )
 
 pub alloc_newest : (state : State) (size align k : ℕ) (outcome : Outcome) → alloc state size align k ≡ Some outcome → IsNewest outcome
+alloc_newest state size align k outcome =
+    alloc_each IsNewest state size align k outcome (placed_newest state size align)
+    (λ e p none found there. placed_newest (with_chunk e state) size align p there) (λ none all. tt)
+
+-- ---- For which numbers of refusals an allocation has a step
+
+-- a step under a test
+some_if : (b : Bool) (outcome : Outcome) → IsSome (if b then Some outcome else None) ↔ IsTrue b
+some_if true outcome = (λ h. refl, λ h. refl)
+some_if false outcome = (λ h. h, λ h. h)
+
+-- nothing is asked for if there is a place
+pub step_in_place : (state : State) (size align p k : ℕ) → place state size align ≡ Some p → IsSome (alloc state size align k) ↔ (k ≡ 0)
 unfolding alloc
-alloc_newest state size align k outcome step = by_place (place state size align) refl step
-  where
-    in_chunk : (e : ℕ × ℕ) (o : Option ℕ) → place (with_chunk e state) size align ≡ o
-        → option_map (placed (with_chunk e state)) o ≡ Some outcome → IsNewest outcome
-    in_chunk e (Some p) found at = subst IsNewest (same_Some (placed (with_chunk e state) p) outcome at)
-        (placed_newest (with_chunk e state) size align p found)
-    in_chunk e None none at = absurd (none-some outcome at)
+step_in_place state size align p k found = rw found (
+  (λ some. eqb-true k 0 ((some_if (k == 0) (placed state p)).0 some)),
+  (λ none. (some_if (k == 0) (placed state p)).1 (eq-eqb k 0 none)),
+)
 
-    by_chunk : (o : Option (ℕ × ℕ)) → alloc_in_new o state size align k ≡ Some outcome → IsNewest outcome
-    by_chunk (Some e) at = in_chunk e (place (with_chunk e state) size align) refl at
-    by_chunk None at = subst IsNewest (cond_some (k == length (asked state size align)) (fails state) outcome at).1 tt
+-- otherwise any of the chunks may be granted, or none
+pub step_in_new : (state : State) (size align k : ℕ) → IsValid state → IsTrue (is_power align) → place state size align ≡ None
+    → IsSome (alloc state size align k) ↔ (k ≤ length (asked state size align))
+unfolding alloc
+step_in_new state size align k valid power none = elim (slice_get_cases (asked state size align) k).1 [
+  | inl inside ↦
+      let e : ℕ × ℕ = inside.0 in
+      let granted = is_granted state size align k e (down (e.0 + e.1 - size) (max align state.min_align)) valid
+      (growing_of state size align k e inside.2) power none inside.2 refl in
+      let step : IsSome (alloc state size align k) = rw granted.step refl in
+      (λ some. omega (arith, inside.1), λ within. step)
+  | inr past ↦ rw (none, past.1) (
+    (λ some. omega (arith, eqb-true _ _ ((some_if (k == length (asked state size align)) (fails state)).0 some))),
+    (λ within. (some_if (k == length (asked state size align)) (fails state)).1 (eq-eqb _ _ (omega (arith, past.0)))),
+  )
+]
 
-    by_place : (o : Option ℕ) → place state size align ≡ o → alloc_at o state size align k ≡ Some outcome → IsNewest outcome
-    by_place (Some p) found at = subst IsNewest (cond_some (k == 0) (placed state p) outcome at).1 (placed_newest state size align p found)
-    by_place None none at = by_chunk (slice_get (asked state size align) k) at
+-- an allocation asks for at most 64 chunks
+pub asked_most : (state : State) (size align : ℕ) → length (asked state size align) ≤ 64
+unfolding asked asked_above
+asked_most state size align =
+    cond_both state.is_growing (asked_above (floor_of state.chunks) (newest_size state.chunks) size align) []
+    (λ (l : List (ℕ × ℕ)). length l ≤ 64)
+    (λ growing. length-entries (next_base (floor_of state.chunks) align) size align (max (least_size size) (2 * newest_size state.chunks))
+    (least_size size))
+    (λ still. omega arith)

@@ -11,6 +11,7 @@ use Rattle.arena_rules.proofs.RoundingLemmas.{up_ge, up_close, up_mono}
 use Rattle.arena_rules.proofs.SizeLemmas.{size_some}
 use Rattle.arena_rules.proofs.SearchLemmas.{possible_some}
 use Rattle.arena_rules.proofs.AskedSizeLemmas.{chunk_align_small, layout_at}
+use Rattle.arena_rules.proofs.CursorLemmas.{floor_near}
 
 -- a chunk of this many bytes is possible, below these addresses
 can_be : (base size align m : ℕ) → align ≤ 16 → size ≤ m → 4096 ≤ m → m + 64 ≤ 2 ^ 63 → base ≤ 2 ^ 62 + 2 ^ 61 + 8192
@@ -46,17 +47,13 @@ asks_any state size align valid growing small fits few low =
     let base : ℕ = next_base (floor_of state.chunks) align in
     let near : base < floor_of state.chunks + 16
     = rw (chunk_align_small align small) (up_close (floor_of state.chunks) 16 (omega arith)) in
-    let floor = floor_low state.chunks low in
+    let floor = floor_near state.chunks in
     let newest = newest_few state.chunks in
     let first : ℕ = max (least_size size) (2 * newest_size state.chunks) in
     let below : base ≤ 2 ^ 62 + 2 ^ 61 + 8192 = omega (arith, near, floor) in
     let e = can_be base size align first small (omega arith) (omega arith) (omega (arith, newest, few, fits)) below in
     rw growing (first_asked (possible base size align) (least_size size) first 63 e.0 (omega arith) e.1)
   where
-    floor_low : (chunks : List Chunk) → top_of chunks ≤ 2 ^ 62 + 2 ^ 61 → floor_of chunks ≤ 2 ^ 62 + 2 ^ 61 + 4096
-    floor_low [] low = omega arith
-    floor_low (newest ∷ older) low = omega arith
-
     newest_few : (chunks : List Chunk) → newest_size chunks ≤ sum (map (λ (c : Chunk). c.size) chunks)
     newest_few [] = omega arith
     newest_few (newest ∷ older) = omega (arith, sum_by-cons (λ (n : ℕ). n) newest.size (map (λ (c : Chunk). c.size) older))

@@ -15,20 +15,9 @@ use Rattle.arena_rules.proofs.ListLemmas.{all_filtered, all_take, all_map, all_w
 use Rattle.arena_rules.proofs.RoundingLemmas.{down_close, up_ge, up_close}
 use Rattle.arena_rules.proofs.SizeLemmas.{size_some}
 use Rattle.arena_rules.proofs.SearchLemmas.{size_is, possible_some}
-use Rattle.arena_rules.proofs.EntryLemmas.{possible_is, rounded_large}
+use Rattle.arena_rules.proofs.EntryLemmas.{possible_is, rounded_large, all_halves}
 use Rattle.arena_rules.proofs.UsedBytesLemmas.{unit_positive}
-
--- ---- The sizes that are tried
-
-all_halves : (t n least most : ℕ) → n ≤ most → AllByRecursion (λ m. (least ≤ m) × (m ≤ most)) (halves t n least)
-unfolding halves
-all_halves zero n least most within = tt
-all_halves (suc t) n least most within = elim (cases_lt n least) [
-  | inl low ↦ let test : nat_le least n ≡ false = grind (arith, nat_tests) in rw test tt
-  | inr enough ↦
-      let test : nat_le least n ≡ true = grind (arith, nat_tests) in
-      rw test ((enough, within), all_halves t (n / 2) least most (omega arith))
-]
+use Rattle.arena_rules.proofs.CursorLemmas.{floor_near}
 
 -- ---- Chunks that are asked for
 
@@ -141,15 +130,12 @@ some_possible h least can (suc t) n some enough short =
     on None rest = rest
     on (Some e) rest = omega arith
 
-layout_16 : (n : ℕ) → n + 16 ≤ 2 ^ 63 → IsTrue (is_layout n 16)
+pub layout_at : (align n : ℕ) → align ≡ 16 → n + 16 ≤ 2 ^ 63 → IsTrue (is_layout n align)
 unfolding is_power_among
-layout_16 n fits =
+layout_at align n is fits =
     let close = up_close n 16 (omega arith) in
     let test : nat_le (up n 16) (2 ^ 63 - 1) ≡ true = grind (arith, nat_tests, close) in
-    rw test refl
-
-pub layout_at : (align n : ℕ) → align ≡ 16 → n + 16 ≤ 2 ^ 63 → IsTrue (is_layout n align)
-layout_at align n is fits = rw is (layout_16 n fits)
+    rw (is, test) refl
 
 -- a chunk of less than twice the least size is possible, below these addresses
 can_possible : (base size align least m : ℕ) → align ≤ 16 → 4096 ≤ least → size ≤ least → least ≤ 2 ^ 60 → base ≤ 2 ^ 63 + 2 ^ 62 + 8192
@@ -172,17 +158,13 @@ unfolding asked asked_above entries
 asks_some state size align valid growing small bounded low =
     let base : ℕ = next_base (floor_of state.chunks) align in
     let near : base < floor_of state.chunks + 16 = rw (chunk_align_small align small) (up_close (floor_of state.chunks) 16 (omega arith)) in
-    let floor = floor_low state.chunks low in
+    let floor = floor_near state.chunks in
     let newest = newest_fits state.chunks valid.chunks in
     rw growing (some_possible (possible base size align) (least_size size)
     (λ m from to. can_possible base size align (least_size size) m small (omega arith) (omega arith) (omega arith)
     (omega (arith, near, floor)) from to)
     64 (max (least_size size) (2 * newest_size state.chunks)) (omega arith) (omega arith) (omega (arith, newest)))
   where
-    floor_low : (chunks : List Chunk) → top_of chunks ≤ 2 ^ 63 + 2 ^ 62 → floor_of chunks ≤ 2 ^ 63 + 2 ^ 62 + 4096
-    floor_low [] low = omega arith
-    floor_low (newest ∷ older) low = omega arith
-
     newest_fits : (chunks : List Chunk) → AreChunks state.min_align chunks → newest_size chunks < 2 ^ 63
     newest_fits [] fine = omega arith
     newest_fits (newest ∷ older) fine = omega (arith, fine.0.size_fits)

@@ -1,5 +1,5 @@
 -- What remains of a state that goes back to a mark.
-use Rattle.std.proofs.Common.{◌≡◌, ℕ, zero, suc, ◌+◌, ◌-◌, ◌%◌, ◌<◌, ◌≤◌, max, refl, sym, ap, subst, arith, eqb-true, leb-true, List, [], ◌∷◌, IsTrue, Bool, true, false, sum, map, length, drop, inl, inr}
+use Rattle.std.proofs.Common.{◌≡◌, ℕ, zero, suc, ◌-◌, ◌%◌, ◌<◌, ◌≤◌, max, refl, sym, ap, subst, arith, eqb-true, leb-true, List, [], ◌∷◌, IsTrue, Bool, true, false, sum, map, length, drop, inl, inr}
 use Rattle.std.specs.Prelude.{◌==◌, ◌&&◌, nat_le, if◌then◌else◌}
 use Rattle.std.proofs.lemmas.Bool.{and_parts, or_cases, or_left, or_right, cases_lt}
 use Rattle.std.proofs.lemmas.Bool.Decides.{nat_tests}
@@ -7,6 +7,7 @@ use Rattle.std.proofs.lemmas.List.Sums.{sum_by-cons}
 use Rattle.arena_rules.specs.State.{State, Chunk, AreChunks, FitsKind, IsValid, start_of, cursor_of, top_of, floor_of, data_end, used_length, used_bytes, is_used_by, is_range_used}
 use Rattle.arena_rules.specs.Doubling.{IsDoubling}
 use Rattle.arena_rules.specs.Back.{Point, mark_of, first_chunks, raised, back, accepts}
+use Rattle.arena_rules.proofs.UsedLemmas.{within}
 
 -- ---- The oldest chunks
 
@@ -77,26 +78,20 @@ floor_raised c [] = refl
 floor_raised c (newest ∷ older) = refl
 
 kind_raised : (growing : Bool) (c : ℕ) (chunks : List Chunk) → FitsKind growing chunks → FitsKind growing (raised c chunks)
-kind_raised growing c [] fits = fits
 kind_raised true c (newest ∷ older) fits = fits
-kind_raised false c (newest ∷ []) fits = fits
 kind_raised false c (newest ∷ (next ∷ older)) fits = fits
+kind_raised _ c _ fits = fits
 
 used_raised : (c addr n : ℕ) (chunks : List Chunk) → IsTrue (is_range_used (raised c chunks) addr n) → IsTrue (is_range_used chunks addr n)
 used_raised c addr n [] used = used
 used_raised c addr n (newest ∷ older) used =
     elim (or_cases (is_used_by addr n (record newest { cursor = max newest.cursor c })) (is_range_used older addr n) used) [
-      | inl here ↦ or_left (is_used_by addr n newest) (is_range_used older addr n) (lower here)
+      | inl here ↦
+          let bounds = within addr n (record newest { cursor = max newest.cursor c }) here in
+          let under : newest.cursor ≤ addr = omega (arith, bounds) in
+          or_left (is_used_by addr n newest) (is_range_used older addr n) (grind (arith, nat_tests))
       | inr there ↦ or_right (is_used_by addr n newest) (is_range_used older addr n) there
     ]
-  where
-    lower : IsTrue (is_used_by addr n (record newest { cursor = max newest.cursor c })) → IsTrue (is_used_by addr n newest)
-    lower here =
-        let parts = and_parts _ _ here in
-        let low : max newest.cursor c ≤ addr = leb-true _ _ parts.0 in
-        let high : addr + n ≤ data_end newest = leb-true _ _ parts.1 in
-        let under : newest.cursor ≤ addr = omega arith in
-        grind (arith, nat_tests)
 
 total_raised : (c : ℕ) (chunks : List Chunk) → sum (map used_length (raised c chunks)) ≤ sum (map used_length chunks)
 total_raised c [] = omega arith
@@ -188,12 +183,11 @@ pub back_valid : (mark : Point) (state : State) → IsValid state → IsTrue (ac
 back_valid mark state valid holds = record {
   min_align = valid.min_align;
   chunks = elim (cases_lt 0 mark.chunks) [
-    | inl some ↦ valid_raised state.min_align mark.cursor kept first (is.aligned some) (is.high some)
+    | inl some ↦ valid_raised state.min_align mark.cursor kept first.chunks (is.aligned some) (is.high some)
     | inr none ↦ rw (none_left state.chunks mark.chunks (omega arith)) tt
   ];
-  top = rw (floor_raised mark.cursor kept)
-      (omega (arith, floor_after state.min_align (length state.chunks - mark.chunks) state.chunks valid.chunks, valid.top));
-  kind = kind_raised state.is_growing mark.cursor kept (kind state.is_growing refl);
+  top = rw (floor_raised mark.cursor kept) first.top;
+  kind = kind_raised state.is_growing mark.cursor kept first.kind;
   generation = valid.generation;
 }
   where
@@ -203,15 +197,8 @@ back_valid mark state valid holds = record {
     kept : List Chunk
     kept = first_chunks mark.chunks state.chunks
 
-    first : AreChunks state.min_align kept
-    first = valid_after state.min_align (length state.chunks - mark.chunks) state.chunks valid.chunks
-
-    kind : (growing : Bool) → state.is_growing ≡ growing → FitsKind state.is_growing kept
-    kind true same = rw same (kind_after (length state.chunks - mark.chunks) state.chunks (rw same at valid.kind))
-    kind false same = elim (cases_lt 0 mark.chunks) [
-      | inl some ↦ rw same (kind_fixed mark.chunks state.chunks some (rw same at valid.kind))
-      | inr none ↦ absurd (not_both state.is_growing (is.growing (omega arith)) same)
-    ]
+    first : IsValid (record state { chunks = kept })
+    first = first_valid mark.chunks state valid is.growing
 
 -- Nothing comes into use.
 pub back_fewer : (mark : Point) (state : State) (addr n : ℕ) → IsTrue (is_range_used (back mark state).chunks addr n)

@@ -1,5 +1,5 @@
 -- The cursor of the newest chunk, and where it may move.
-use Rattle.std.proofs.Common.{◌≡◌, ℕ, ◌+◌, ◌-◌, ◌%◌, ◌^◌, ◌<◌, ◌≤◌, refl, arith, List, [], ◌∷◌, true, false, Bool}
+use Rattle.std.proofs.Common.{◌≡◌, ℕ, ◌+◌, ◌-◌, ◌%◌, ◌^◌, ◌<◌, ◌≤◌, refl, arith, List, [], ◌∷◌, false, Bool, true}
 use Rattle.arena_rules.specs.State.{State, Chunk, AreChunks, FitsKind, IsValid, start_of, cursor_of, top_of, floor_of, with_cursor, with_newest_cursor}
 use Rattle.arena_rules.specs.Moves.{set_cursor}
 use Rattle.arena_rules.proofs.RoundingLemmas.{min_align_multiple}
@@ -67,10 +67,9 @@ chunks_set m p (newest ∷ older) valid low high aligned = (
 )
 
 kind_set : (growing : Bool) (p : ℕ) → (chunks : List Chunk) → FitsKind growing chunks → FitsKind growing (with_newest_cursor p chunks)
-kind_set growing p [] fits = fits
 kind_set true p (newest ∷ older) fits = fits
-kind_set false p (newest ∷ []) fits = fits
 kind_set false p (newest ∷ (next ∷ older)) fits = fits
+kind_set _ p _ fits = fits
 
 floor_set : (p : ℕ) → (chunks : List Chunk) → floor_of (with_newest_cursor p chunks) ≡ floor_of chunks
 floor_set p [] = refl
@@ -115,3 +114,7 @@ cursor_set p (newest ∷ older) low high = refl
 pub top_floor : (chunks : List Chunk) → top_of chunks ≤ floor_of chunks
 top_floor [] = omega arith
 top_floor (newest ∷ older) = omega arith
+
+pub floor_near : (chunks : List Chunk) → floor_of chunks ≤ top_of chunks + 4096
+floor_near [] = omega arith
+floor_near (newest ∷ older) = omega arith

@@ -1,23 +1,24 @@
 -- Chunks that double.
 use Rattle.std.proofs.Common.{◌≡◌, ℕ, suc, ◌+◌, ◌-◌, ◌*◌, ◌^◌, ◌≤◌, max, refl, sym, subst, ◌∙◌, arith, eqb-true, IsTrue, Some, None, Option, List, [], ◌∷◌, length, true, ap, sum, map}
 use Rattle.std.specs.Prelude.{◌==◌, ◌&&◌, slice_get}
-use Rattle.std.specs.Option.{is_some, option_map}
-use Rattle.std.proofs.lemmas.Bool.{and_parts, cond_both}
+use Rattle.std.specs.Option.{is_some}
+use Rattle.std.proofs.lemmas.Bool.{and_parts}
 use Rattle.std.proofs.lemmas.List.Sums.{sum_by-cons}
-use Rattle.std.proofs.lemmas.Option.{none-some, same_Some, cond_some}
+use Rattle.std.proofs.lemmas.Option.{same_Some}
 use Rattle.std.proofs.lemmas.Nat.{pow_pos}
 use Rattle.std.proofs.Math.Nat.{pow-suc}
 use Rattle.arena_rules.specs.Rounding.{up}
-use Rattle.arena_rules.specs.State.{State, Chunk, newest_size, cursor_of, floor_of, allocated_bytes, with_newest_cursor, with_cursor}
+use Rattle.arena_rules.specs.State.{State, Chunk, newest_size, floor_of, allocated_bytes, with_newest_cursor}
 use Rattle.arena_rules.specs.Search.{place, possible, entries, asked, asked_above, least_size, next_base, chunk_align}
-use Rattle.arena_rules.specs.Moves.{Outcome, Resizing, alloc, alloc_at, alloc_in_new, grow, growing, shrink, shrinking, resize, anew, dealloc, reset, emptied, placed, stays, fails, unasked, with_chunk}
+use Rattle.arena_rules.specs.Moves.{Outcome, Resizing, alloc, grow, growing, shrink, shrinking, resize, anew, dealloc, reset, emptied, placed, stays, fails}
 use Rattle.arena_rules.specs.Moves.Resizing.{Stays, Moves, Anew, Refused}
 use Rattle.arena_rules.specs.Doubling.{IsDoubling, oldest_size, first_entry, is_made_first, is_anew_made_first}
 use Rattle.arena_rules.proofs.RoundingLemmas.{up_ge}
 use Rattle.arena_rules.proofs.SearchLemmas.{halves_first, size_is}
 use Rattle.arena_rules.proofs.EntryLemmas.{possible_is, rounded_large}
-use Rattle.arena_rules.proofs.AllocLemmas.{growing_of}
+use Rattle.arena_rules.proofs.AllocLemmas.{growing_of, unasked_each, alloc_each}
 use Rattle.arena_rules.proofs.ResetLemmas.{reset_allocated}
+use Rattle.arena_rules.proofs.ReturnLemmas.{dealloc_by}
 
 -- ---- How much there is
 
@@ -139,43 +140,24 @@ Doubles z outcome = IsDoubling z outcome.state.chunks
 pub alloc_doubling : (z : ℕ) (state : State) (size align k : ℕ) (outcome : Outcome) → z ≤ 16320 → IsDoubling z state.chunks
     → IsTrue (is_made_first state size align k)
     → alloc state size align k ≡ Some outcome → Doubles z outcome
-unfolding alloc
-alloc_doubling z state size align k outcome small double made step = by_place (place state size align) refl step
-  where
-    in_chunk : (e : ℕ × ℕ) (o : Option ℕ) → max z (2 * newest_size state.chunks) ≤ e.1
-        → option_map (placed (with_chunk e state)) o ≡ Some outcome → Doubles z outcome
-    in_chunk e (Some p) large at = subst (Doubles z) (same_Some (placed (with_chunk e state) p) outcome at) (large, double)
-    in_chunk e None large at = absurd (none-some outcome at)
-
-    by_chunk : (o : Option (ℕ × ℕ)) → place state size align ≡ None → slice_get (asked state size align) k ≡ o
-        → alloc_in_new o state size align k ≡ Some outcome → Doubles z outcome
-    by_chunk (Some e) none found at =
-        in_chunk e (place (with_chunk e state) size align) (made_first_ge z state size align k e small none found made) at
-    by_chunk None none found at = subst (Doubles z) (cond_some (k == length (asked state size align)) (fails state) outcome at).1 double
-
-    by_place : (o : Option ℕ) → place state size align ≡ o → alloc_at o state size align k ≡ Some outcome → Doubles z outcome
-    by_place (Some p) found at = subst (Doubles z) (cond_some (k == 0) (placed state p) outcome at).1
-        (doubling_moved z p state.chunks double)
-    by_place None none at = by_chunk (slice_get (asked state size align) k) none refl at
+alloc_doubling z state size align k outcome small double made =
+    alloc_each (Doubles z) state size align k outcome (λ p found. doubling_moved z p state.chunks double)
+    (λ e p none found there. (made_first_ge z state size align k e small none found made, double)) (λ none all. double)
 
 -- an allocation of this layout, if there is one, makes no chunk or makes it first
 abbrev pub IsMadeFirst : State → ℕ → Option (ℕ × ℕ) → Type 0
 IsMadeFirst state k layout = IsTrue (is_anew_made_first state layout k)
 
--- a call that asks for nothing
-unasked_doubling : (z k : ℕ) (r outcome : Outcome) → Doubles z r → unasked k r ≡ Some outcome → Doubles z outcome
-unasked_doubling z k r outcome holds at = subst (Doubles z) (cond_some (k == 0) r outcome at).1 holds
-
 -- a block that is resized
 pub resize_doubling : (z : ℕ) (way : Resizing) (state : State) (p size align k : ℕ) (outcome : Outcome) → z ≤ 16320
     → IsDoubling z state.chunks
     → IsMadeFirst state k (anew way (size, align)) → resize way state p size align k ≡ Some outcome → Doubles z outcome
-resize_doubling z Stays state p size align k outcome small double made step = unasked_doubling z k (stays state p) outcome double step
+resize_doubling z Stays state p size align k outcome small double made step = unasked_each (Doubles z) k (stays state p) outcome double step
 resize_doubling z (Moves q) state p size align k outcome small double made step =
-    unasked_doubling z k (placed state q) outcome (doubling_moved z q state.chunks double) step
+    unasked_each (Doubles z) k (placed state q) outcome (doubling_moved z q state.chunks double) step
 resize_doubling z Anew state p size align k outcome small double made step =
     alloc_doubling z state size align k outcome small double made step
-resize_doubling z Refused state p size align k outcome small double made step = unasked_doubling z k (fails state) outcome double step
+resize_doubling z Refused state p size align k outcome small double made step = unasked_each (Doubles z) k (fails state) outcome double step
 
 -- a block that grows
 pub grow_doubling : (z : ℕ) (state : State) (p size align new_size new_align k : ℕ) (outcome : Outcome) → z ≤ 16320
@@ -197,7 +179,6 @@ shrink_doubling z state p size align new_size new_align k outcome =
 
 -- a block that is given back
 pub dealloc_doubling : (z p size : ℕ) (state : State) → IsDoubling z state.chunks → IsDoubling z (dealloc state p size).chunks
-unfolding dealloc
 dealloc_doubling z p size state double =
-    cond_both (p == cursor_of state.chunks) (with_cursor (up (p + size) state.min_align) state) state (λ (s : State). IsDoubling z s.chunks)
-    (λ last. doubling_moved z (up (p + size) state.min_align) state.chunks double) (λ other. double)
+    dealloc_by (λ (s : State). IsDoubling z s.chunks) state p size (λ last. doubling_moved z (up (p + size) state.min_align) state.chunks double)
+    double

@@ -24,12 +24,15 @@ filtered_at {X} {Y} h P (x ∷ xs) k y all found = go (h x) k refl (λ i at. fil
     go (Some z) zero is rest at = (x, all.0, is ∙ at)
     go (Some z) (suc i) is rest at = rest i at
 
-all_halves : (t n least : ℕ) → AllByRecursion (λ n. least ≤ n) (halves t n least)
+-- each tried size is between the least and the first
+pub all_halves : (t n least most : ℕ) → n ≤ most → AllByRecursion (λ m. (least ≤ m) × (m ≤ most)) (halves t n least)
 unfolding halves
-all_halves zero n least = tt
-all_halves (suc t) n least = elim (cases_lt n least) [
+all_halves zero n least most within = tt
+all_halves (suc t) n least most within = elim (cases_lt n least) [
   | inl low ↦ let test : nat_le least n ≡ false = grind (arith, nat_tests) in rw test tt
-  | inr enough ↦ let test : nat_le least n ≡ true = grind (arith, nat_tests) in rw test (enough, all_halves t (n / 2) least)
+  | inr enough ↦
+      let test : nat_le least n ≡ true = grind (arith, nat_tests) in
+      rw test ((enough, within), all_halves t (n / 2) least most (omega arith))
 ]
 
 -- each entry is that of some tried size
@@ -37,7 +40,9 @@ pub entry_tried : (base size align first least k : ℕ) (e : ℕ × ℕ) → sli
     → (tried : ℕ) × (least ≤ tried) × (possible base size align tried ≡ Some e)
 unfolding entries
 entry_tried base size align first least k e found =
-    filtered_at (possible base size align) (λ n. least ≤ n) (halves 64 first least) k e (all_halves 64 first least) found
+    let tried = filtered_at (possible base size align) (λ m. (least ≤ m) × (m ≤ first)) (halves 64 first least) k e
+    (all_halves 64 first least first (omega arith)) found in
+    (tried.0, tried.1.0, tried.2)
 
 -- a possible chunk has the data size of its tried size
 pub possible_is : (base size align tried : ℕ) (e : ℕ × ℕ) → possible base size align tried ≡ Some e

@@ -1,20 +1,18 @@
 -- What becomes of the chunks in an allocation, and when an allocation fails.
-use Rattle.std.proofs.Common.{◌≡◌, ℕ, ◌+◌, ◌-◌, ◌<◌, ◌≤◌, ap, refl, subst, arith, IsTrue, Some, None, Option, List, [], ◌∷◌, length, map, inl, inr, eqb-true}
-use Rattle.std.specs.Prelude.{slice_get, ◌==◌}
-use Rattle.std.specs.Option.{option_map}
+use Rattle.std.proofs.Common.{◌≡◌, ℕ, ◌+◌, ◌-◌, ◌<◌, ◌≤◌, refl, arith, IsTrue, Some, None, List, [], ◌∷◌, length, map, sym}
 use Rattle.std.proofs.lemmas.List.Sums.{sum_by-cons}
-use Rattle.std.proofs.lemmas.Bool.{cases_Bool}
-use Rattle.std.proofs.lemmas.Option.{cond_some, same_Some, none-some}
+use Rattle.std.proofs.lemmas.Option.{none-some}
 use Rattle.arena_rules.specs.Rounding.{up, is_power}
-use Rattle.arena_rules.specs.State.{State, Chunk, IsValid, cursor_of, floor_of, used_bytes, with_cursor}
+use Rattle.arena_rules.specs.State.{State, Chunk, IsValid, floor_of, used_bytes, with_cursor}
 use Rattle.arena_rules.specs.Search.{place, next_base, asked}
-use Rattle.arena_rules.specs.Moves.{Outcome, alloc, alloc_at, alloc_in_new, placed, fails, with_chunk, dealloc}
+use Rattle.arena_rules.specs.Moves.{Outcome, alloc, with_chunk, dealloc}
 use Rattle.arena_rules.specs.Used.{unit_of}
 use Rattle.arena_rules.specs.Asking.{HasGrown}
 use Rattle.arena_rules.proofs.RoundingLemmas.{up_close}
-use Rattle.arena_rules.proofs.AllocLemmas.{entry_of, growing_of}
+use Rattle.arena_rules.proofs.AllocLemmas.{entry_of, growing_of, alloc_each}
 use Rattle.arena_rules.proofs.AskedSizeLemmas.{all_asked, chunk_align_small}
 use Rattle.arena_rules.proofs.ListLemmas.{all_get}
+use Rattle.arena_rules.proofs.ReturnLemmas.{dealloc_by}
 
 -- ---- What becomes of the chunks
 
@@ -45,43 +43,22 @@ chunk_grown state e near large = go state.chunks near
 
 -- a block that is given back
 pub dealloc_grown : (state : State) (p size : ℕ) → HasGrown state (dealloc state p size)
-unfolding dealloc
-dealloc_grown state p size = elim (cases_Bool (p == cursor_of state.chunks)) [
-  | inl last ↦ rw last (cursor_grown (up (p + size) state.min_align) state)
-  | inr other ↦ rw other (grown_not state)
-]
+dealloc_grown state p size = dealloc_by (HasGrown state) state p size (λ last. cursor_grown (up (p + size) state.min_align) state) (grown_not state)
 
 -- An allocation moves a cursor, perhaps in one more chunk, or fails.
 pub alloc_grown : (state : State) (size align k : ℕ) (outcome : Outcome) → IsValid state → IsTrue (is_power align) → align ≤ 16
     → alloc state size align k ≡ Some outcome → HasGrown state outcome.state
-unfolding alloc
-alloc_grown state size align k outcome valid power small step = by_place (place state size align) refl step
-  where
-    in_chunk : (e : ℕ × ℕ) → HasGrown state (with_chunk e state) → (o : Option ℕ)
-        → option_map (placed (with_chunk e state)) o ≡ Some outcome
-        → HasGrown state outcome.state
-    in_chunk e more (Some p) at =
-        subst (λ (o : Outcome). HasGrown state o.state) (same_Some (placed (with_chunk e state) p) outcome at)
-        (grown_then state (with_chunk e state) (with_cursor p (with_chunk e state)) more (cursor_grown p (with_chunk e state)))
-    in_chunk e more None at = absurd (none-some outcome at)
-
-    by_chunk : (o : Option (ℕ × ℕ)) → slice_get (asked state size align) k ≡ o → place state size align ≡ None
-        → alloc_in_new o state size align k ≡ Some outcome → HasGrown state outcome.state
-    by_chunk (Some e) found none at =
-        let entry = entry_of state size align k e (growing_of state size align k e found) power found in
-        let near : next_base (floor_of state.chunks) align < floor_of state.chunks + 16 =
-        rw (chunk_align_small align small) (up_close (floor_of state.chunks) 16 (omega arith)) in
-        let size_is = all_get _ (asked state size align) k e
-        (all_asked state size align (used_bytes state + size + (unit_of state align - 1)) valid none small (omega arith)) found in
-        in_chunk e (chunk_grown state e (omega (arith, entry.based, near)) size_is.0) (place (with_chunk e state) size align) at
-    by_chunk None found none at =
-        subst (λ (o : Outcome). HasGrown state o.state) (cond_some (k == length (asked state size align)) (fails state) outcome at).1
-        (grown_not state)
-
-    by_place : (o : Option ℕ) → place state size align ≡ o → alloc_at o state size align k ≡ Some outcome → HasGrown state outcome.state
-    by_place (Some p) found at =
-        subst (λ (o : Outcome). HasGrown state o.state) (cond_some (k == 0) (placed state p) outcome at).1 (cursor_grown p state)
-    by_place None none at = by_chunk (slice_get (asked state size align) k) refl none at
+alloc_grown state size align k outcome valid power small =
+    alloc_each (λ (o : Outcome). HasGrown state o.state) state size align k outcome (λ p found. cursor_grown p state)
+    (λ e p none found there.
+    let entry = entry_of state size align k e (growing_of state size align k e found) power found in
+    let near : next_base (floor_of state.chunks) align < floor_of state.chunks + 16 =
+    rw (chunk_align_small align small) (up_close (floor_of state.chunks) 16 (omega arith)) in
+    let size_is = all_get _ (asked state size align) k e
+    (all_asked state size align (used_bytes state + size + (unit_of state align - 1)) valid none small (omega arith)) found in
+    grown_then state (with_chunk e state) (with_cursor p (with_chunk e state))
+    (chunk_grown state e (omega (arith, entry.based, near)) size_is.0) (cursor_grown p (with_chunk e state)))
+    (λ none all. grown_not state)
 
 -- ---- Where all are refused
 
@@ -92,28 +69,7 @@ pub record IsFailed (state : State) (size align k : ℕ) : Type 0 where
 
 pub alloc_failed : (state new : State) (size align k : ℕ) → IsValid state → IsTrue (is_power align)
     → alloc state size align k ≡ Some (record { answer = None; state = new }) → IsFailed state size align k
-unfolding alloc
-alloc_failed state new size align k valid power step = by_place (place state size align) refl step
-  where
-    no_answer : (p : ℕ) (after : State) → placed after p ≡ record { answer = None; state = new } → ⊥
-    no_answer p after same = let is : Some p ≡ None = ap (λ (o : Outcome). o.answer) same in absurd (cc)
-
-    in_chunk : (e : ℕ × ℕ) → (o : Option ℕ) → option_map (placed (with_chunk e state)) o ≡ Some (record { answer = None; state = new })
-        → IsFailed state size align k
-    in_chunk e (Some p) at =
-        absurd (no_answer p (with_chunk e state) (same_Some (placed (with_chunk e state) p) (record { answer = None; state = new }) at))
-    in_chunk e None at = absurd (none-some _ at)
-
-    by_chunk : (o : Option (ℕ × ℕ)) → place state size align ≡ None
-        → alloc_in_new o state size align k ≡ Some (record { answer = None; state = new }) → IsFailed state size align k
-    by_chunk (Some e) none at = in_chunk e (place (with_chunk e state) size align) at
-    by_chunk None none at = record {
-      none = none;
-      all = eqb-true _ _ (cond_some (k == length (asked state size align)) (fails state) (record { answer = None; state = new }) at).0;
-    }
-
-    by_place : (o : Option ℕ) → place state size align ≡ o → alloc_at o state size align k ≡ Some (record { answer = None; state = new })
-        → IsFailed state size align k
-    by_place (Some p) found at =
-        absurd (no_answer p state (cond_some (k == 0) (placed state p) (record { answer = None; state = new }) at).1)
-    by_place None none at = by_chunk (slice_get (asked state size align) k) none at
+alloc_failed state new size align k valid power step =
+    alloc_each (λ (o : Outcome). o.answer ≡ None → IsFailed state size align k) state size align k
+    (record { answer = None; state = new }) (λ p found is. absurd (none-some p (sym is))) (λ e p none found there is. absurd (none-some p (sym is)))
+    (λ none all is. record { none = none; all = all }) step refl

@@ -16,7 +16,6 @@ pub mod AllocatedLemmas
 pub mod MoveLemmas
 pub mod ResetLemmas
 pub mod CreationLemmas
-pub mod RefusalLemmas
 pub mod CauseLemmas
 pub mod AskedSizeLemmas
 pub mod AnySizeLemmas

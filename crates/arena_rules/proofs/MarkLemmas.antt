@@ -1,18 +1,17 @@
 -- What becomes of marks as the state changes.
-use Rattle.std.proofs.Common.{◌≡◌, ℕ, suc, ◌+◌, ◌-◌, ◌≤◌, ◌⊎◌, max, refl, sym, ap, subst, ◌∙◌, arith, leb-true, le-leb, List, [], ◌∷◌, IsTrue, Some, None, Option, length, drop, inl, inr}
-use Rattle.std.specs.Prelude.{◌==◌, slice_get}
-use Rattle.std.specs.Option.{option_map}
-use Rattle.std.proofs.lemmas.Bool.{and_parts, or_cases, or_left, or_right, cases_lt, cond_both}
+use Rattle.std.proofs.Common.{◌≡◌, ℕ, suc, ◌+◌, ◌-◌, ◌≤◌, ◌⊎◌, max, refl, sym, ap, subst, ◌∙◌, arith, le-leb, List, [], ◌∷◌, IsTrue, Some, length, drop, inl, inr}
+use Rattle.std.proofs.lemmas.Bool.{or_cases, or_left, or_right, cases_lt}
 use Rattle.std.proofs.lemmas.Bool.Decides.{nat_tests}
 use Rattle.std.proofs.lemmas.List.{length-drop, drop-drop}
-use Rattle.std.proofs.lemmas.Option.{none-some, same_Some, cond_some}
 use Rattle.arena_rules.specs.Rounding.{up}
-use Rattle.arena_rules.specs.State.{State, Chunk, start_of, cursor_of, top_of, data_end, is_used_by, is_range_used, with_newest_cursor, with_cursor}
-use Rattle.arena_rules.specs.Search.{place, asked}
-use Rattle.arena_rules.specs.Moves.{Outcome, Resizing, alloc, alloc_at, alloc_in_new, resize, dealloc, placed, stays, fails, unasked, with_chunk}
+use Rattle.arena_rules.specs.State.{State, Chunk, start_of, cursor_of, top_of, is_used_by, is_range_used, with_newest_cursor, with_cursor}
+use Rattle.arena_rules.specs.Moves.{Outcome, Resizing, alloc, resize, dealloc, placed, stays, fails}
 use Rattle.arena_rules.specs.Moves.Resizing.{Stays, Moves, Anew, Refused}
 use Rattle.arena_rules.specs.Back.{Point, first_chunks, raised, back, accepts, KeepsMark}
 use Rattle.arena_rules.proofs.BackLemmas.{is_mark, all_kept}
+use Rattle.arena_rules.proofs.AllocLemmas.{unasked_each, alloc_each}
+use Rattle.arena_rules.proofs.ReturnLemmas.{dealloc_by}
+use Rattle.arena_rules.proofs.UsedLemmas.{within}
 
 -- ---- The oldest chunks as newer ones come and go
 
@@ -48,21 +47,13 @@ used_moved c p addr k (newest ∷ older) used told =
       | inr there ↦ or_right (is_used_by addr k (record newest { cursor = max p c })) (is_range_used older addr k) there
       | inl here ↦ elim (or_cases (is_used_by addr k (record newest { cursor = max newest.cursor c })) (is_range_used older addr k) told) [
         | inr there ↦ or_right (is_used_by addr k (record newest { cursor = max p c })) (is_range_used older addr k) there
-        | inl too ↦ or_left (is_used_by addr k (record newest { cursor = max p c })) (is_range_used older addr k) (both here too)
+        | inl too ↦
+            let first = within addr k (record newest { cursor = p }) here in
+            let second = within addr k (record newest { cursor = max newest.cursor c }) too in
+            let under : max p c ≤ addr = omega (arith, first, second) in
+            or_left (is_used_by addr k (record newest { cursor = max p c })) (is_range_used older addr k) (grind (arith, nat_tests))
       ]
     ]
-  where
-    both : IsTrue (is_used_by addr k (record newest { cursor = p }))
-        → IsTrue (is_used_by addr k (record newest { cursor = max newest.cursor c }))
-        → IsTrue (is_used_by addr k (record newest { cursor = max p c }))
-    both here too =
-        let first = and_parts _ _ here in
-        let second = and_parts _ _ too in
-        let low : p ≤ addr = leb-true _ _ first.0 in
-        let marked_low : max newest.cursor c ≤ addr = leb-true _ _ second.0 in
-        let high : addr + k ≤ data_end newest = leb-true _ _ first.1 in
-        let under : max p c ≤ addr = omega arith in
-        grind (arith, nat_tests)
 
 is_below : (n : ℕ) (old new : List Chunk) → n ≤ length old → StayBelow n old new → IsBelow n old new
 is_below n old new within stay = elim stay [
@@ -161,45 +152,26 @@ next_still state = record { generation = refl; min_align = refl; is_growing = re
 next_placed : (p : ℕ) (state : State) → IsNext state (with_cursor p state)
 next_placed p state = record { generation = refl; min_align = refl; is_growing = refl; follows = inl (p, refl) }
 
-next_unasked : (k : ℕ) (state : State) (r outcome : Outcome) → IsNext state r.state → unasked k r ≡ Some outcome
-    → IsNext state outcome.state
-next_unasked k state r outcome next at = subst (λ (o : Outcome). IsNext state o.state) (cond_some (k == 0) r outcome at).1 next
-
 next_alloc : (state : State) (size align k : ℕ) (outcome : Outcome) → alloc state size align k ≡ Some outcome → IsNext state outcome.state
-unfolding alloc
-next_alloc state size align k outcome step = by_place (place state size align) step
-  where
-    in_chunk : (e : ℕ × ℕ) (o : Option ℕ) → option_map (placed (with_chunk e state)) o ≡ Some outcome → IsNext state outcome.state
-    in_chunk e (Some p) at = subst (λ (o : Outcome). IsNext state o.state) (same_Some (placed (with_chunk e state) p) outcome at)
-        (record {
-          generation = refl;
-          min_align = refl;
-          is_growing = refl;
-          follows = inr (record { base = e.0; size = e.1; cursor = p }, refl);
-        })
-    in_chunk e None at = absurd (none-some outcome at)
-
-    by_chunk : (o : Option (ℕ × ℕ)) → alloc_in_new o state size align k ≡ Some outcome → IsNext state outcome.state
-    by_chunk (Some e) at = in_chunk e (place (with_chunk e state) size align) at
-    by_chunk None at = subst (λ (o : Outcome). IsNext state o.state)
-        (cond_some (k == length (asked state size align)) (fails state) outcome at).1 (next_still state)
-
-    by_place : (o : Option ℕ) → alloc_at o state size align k ≡ Some outcome → IsNext state outcome.state
-    by_place (Some p) at = next_unasked k state (placed state p) outcome (next_placed p state) at
-    by_place None at = by_chunk (slice_get (asked state size align) k) at
+next_alloc state size align k outcome =
+    alloc_each (λ (o : Outcome). IsNext state o.state) state size align k outcome (λ p found. next_placed p state)
+    (λ e p none found there. record {
+      generation = refl;
+      min_align = refl;
+      is_growing = refl;
+      follows = inr (record { base = e.0; size = e.1; cursor = p }, refl);
+    }) (λ none all. next_still state)
 
 next_resize : (way : Resizing) (state : State) (p size align k : ℕ) (outcome : Outcome) → resize way state p size align k ≡ Some outcome
     → IsNext state outcome.state
-next_resize Stays state p size align k outcome step = next_unasked k state (stays state p) outcome (next_still state) step
-next_resize (Moves q) state p size align k outcome step = next_unasked k state (placed state q) outcome (next_placed q state) step
-next_resize Anew state p size align k outcome step = next_alloc state size align k outcome step
-next_resize Refused state p size align k outcome step = next_unasked k state (fails state) outcome (next_still state) step
+next_resize Stays state p size align k outcome = unasked_each (λ (o : Outcome). IsNext state o.state) k (stays state p) outcome (next_still state)
+next_resize (Moves q) state p size align k outcome =
+    unasked_each (λ (o : Outcome). IsNext state o.state) k (placed state q) outcome (next_placed q state)
+next_resize Anew state p size align k outcome = next_alloc state size align k outcome
+next_resize Refused state p size align k outcome = unasked_each (λ (o : Outcome). IsNext state o.state) k (fails state) outcome (next_still state)
 
 next_dealloc : (state : State) (p size : ℕ) → IsNext state (dealloc state p size)
-unfolding dealloc
-next_dealloc state p size =
-    cond_both (p == cursor_of state.chunks) (with_cursor (up (p + size) state.min_align) state) state (λ (s : State). IsNext state s)
-    (λ last. next_placed (up (p + size) state.min_align) state) (λ other. next_still state)
+next_dealloc state p size = dealloc_by (IsNext state) state p size (λ last. next_placed (up (p + size) state.min_align) state) (next_still state)
 
 pub still_keeps : (mark : Point) (state : State) → IsTrue (accepts mark state) → KeepsMark mark state state
 still_keeps mark state holds = next_keeps mark state state holds (next_still state)
@@ -224,10 +196,6 @@ dealloc_keeps_mark mark state p size holds = next_keeps mark state (dealloc stat
 raised_is : (c : ℕ) (chunks : List Chunk) → raised c chunks ≡ with_newest_cursor (max (cursor_of chunks) c) chunks
 raised_is c [] = refl
 raised_is c (newest ∷ older) = refl
-
-length_raised : (c : ℕ) (chunks : List Chunk) → length (raised c chunks) ≡ length chunks
-length_raised c [] = refl
-length_raised c (newest ∷ older) = refl
 
 back_below : (n : ℕ) (mark : Point) (chunks : List Chunk) → n ≤ mark.chunks → mark.chunks ≤ length chunks
     → StayBelow n chunks (raised mark.cursor (first_chunks mark.chunks chunks))

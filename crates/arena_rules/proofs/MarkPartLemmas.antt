@@ -1,5 +1,5 @@
 -- Which blocks in use are in a mark's part.
-use Rattle.std.proofs.Common.{ℕ, zero, suc, ◌+◌, ◌-◌, ◌<◌, ◌≤◌, max, inl, inr, refl, arith, leb-true, lt-ltb, le-leb, List, [], ◌∷◌, IsTrue, length, drop}
+use Rattle.std.proofs.Common.{ℕ, zero, suc, ◌-◌, ◌<◌, ◌≤◌, max, inl, inr, refl, arith, leb-true, lt-ltb, le-leb, List, [], ◌∷◌, IsTrue, length, drop}
 use Rattle.std.specs.Prelude.{◌&&◌, ◌||◌, nat_le, nat_lt}
 use Rattle.std.proofs.lemmas.Bool.{and_parts, or_cases, or_left, or_right}
 use Rattle.std.proofs.lemmas.Bool.Decides.{nat_tests}
@@ -7,24 +7,13 @@ use Rattle.arena_rules.specs.State.{State, Chunk, AreChunks, IsValid, start_of, 
 use Rattle.arena_rules.specs.Back.{Point, raised, back, is_in_part}
 use Rattle.arena_rules.proofs.BackLemmas.{valid_after, floor_after}
 use Rattle.arena_rules.proofs.CursorLemmas.{top_floor}
-use Rattle.arena_rules.proofs.UsedLemmas.{used_under, used_beside}
-
--- a range in use by a chunk is between its cursor and its data end
-module _ (addr n : ℕ) (chunk : Chunk) (used : IsTrue (is_used_by addr n chunk)) where
-  ends : IsTrue (nat_le chunk.cursor addr) × IsTrue (nat_le (addr + n) (data_end chunk))
-  ends = and_parts (nat_le chunk.cursor addr) (nat_le (addr + n) (data_end chunk)) used
-
-  lower : chunk.cursor ≤ addr
-  lower = leb-true chunk.cursor addr ends.0
-
-  higher : addr + n ≤ data_end chunk
-  higher = leb-true (addr + n) (data_end chunk) ends.1
+use Rattle.arena_rules.proofs.UsedLemmas.{used_under, used_beside, within}
 
 module _ (m addr n : ℕ) (some : 0 < n) where
   under_top : (chunks : List Chunk) → AreChunks m chunks → IsTrue (is_range_used chunks addr n) → addr < top_of chunks
   under_top [] valid used = cc
   under_top (newest ∷ older) valid used = elim (or_cases (is_used_by addr n newest) (is_range_used older addr n) used) [
-    | inl here ↦ (let high = higher addr n newest here in omega arith)
+    | inl here ↦ (let high = (within addr n newest here).high in omega arith)
     | inr there ↦ omega (arith, used_under m addr n older valid.2 some there, valid.1)
   ]
 
@@ -35,7 +24,7 @@ module _ (m addr n : ℕ) (some : 0 < n) where
   in_first (suc k) [] valid below used = used
   in_first (suc k) (newest ∷ older) valid below used = elim (or_cases (is_used_by addr n newest) (is_range_used older addr n) used) [
     | inl here ↦
-        let low = lower addr n newest here in
+        let low = (within addr n newest here).low in
         absurd (omega (arith, below, top_floor (drop k older), floor_after m k older valid.2, valid.1, valid.0.cursor_low))
     | inr there ↦ in_first k older valid.2 below there
   ]
@@ -47,8 +36,8 @@ module _ (m addr n : ℕ) (some : 0 < n) where
   in_raised c (newest ∷ older) valid marked used = elim (or_cases (is_used_by addr n newest) (is_range_used older addr n) used) [
     | inr there ↦ or_right (is_used_by addr n (record newest { cursor = max newest.cursor c })) (is_range_used older addr n) there
     | inl here ↦
-        let low = lower addr n newest here in
-        let high = higher addr n newest here in
+        let low = (within addr n newest here).low in
+        let high = (within addr n newest here).high in
         elim (or_cases (nat_lt addr newest.base) (nat_le c addr) marked) [
           | inl under ↦ (let below : addr < newest.base = leb-true _ _ under in absurd (omega (arith, valid.0.cursor_low)))
           | inr past ↦
@@ -65,7 +54,7 @@ module _ (m addr n : ℕ) (some : 0 < n) where
   raised_in c (newest ∷ older) valid used =
       elim (or_cases (is_used_by addr n (record newest { cursor = max newest.cursor c })) (is_range_used older addr n) used) [
         | inl here ↦
-            let low = lower addr n (record newest { cursor = max newest.cursor c }) here in
+            let low = (within addr n (record newest { cursor = max newest.cursor c }) here).low in
             or_right (nat_lt addr newest.base) (nat_le c addr) (le-leb _ _ (omega arith))
         | inr there ↦ or_left (nat_lt addr newest.base) (nat_le c addr)
             (lt-ltb _ _ (omega (arith, used_under m addr n older valid.2 some there, valid.1)))
@@ -75,7 +64,7 @@ module _ (m addr n : ℕ) (some : 0 < n) where
   raised_used c [] valid used = cc
   raised_used c (newest ∷ older) valid used =
       elim (or_cases (is_used_by addr n (record newest { cursor = max newest.cursor c })) (is_range_used older addr n) used) [
-        | inl here ↦ (let high = higher addr n (record newest { cursor = max newest.cursor c }) here in omega arith)
+        | inl here ↦ (let high = (within addr n (record newest { cursor = max newest.cursor c }) here).high in omega arith)
         | inr there ↦ omega (arith, used_under m addr n older valid.2 some there, valid.1, valid.0.cursor_low, valid.0.cursor_high)
       ]
 

@@ -1,12 +1,11 @@
 -- Blocks that shrink or grow: the cases, the states, and the block afterwards.
-use Rattle.std.proofs.Common.{◌≡◌, ℕ, ◌+◌, ◌-◌, ◌*◌, ◌%◌, ◌<◌, ◌≤◌, max, refl, subst, arith, inl, inr, IsTrue, Option, Some, None, eqb-true, leb-true}
+use Rattle.std.proofs.Common.{◌≡◌, ℕ, ◌+◌, ◌-◌, ◌*◌, ◌%◌, ◌<◌, ◌≤◌, max, refl, arith, inl, inr, IsTrue, Option, Some, None, eqb-true, leb-true}
 use Rattle.std.specs.Prelude.{◌==◌, ◌&&◌, nat_le, nat_lt, MatchOption}
 use Rattle.std.proofs.lemmas.Bool.{and_parts, cond_both, ltb-false, cases_lt}
-use Rattle.std.proofs.lemmas.Option.{cond_some}
 use Rattle.arena_rules.specs.Rounding.{up, is_layout, is_power}
 use Rattle.arena_rules.specs.State.{State, is_min_align, IsValid, start_of, cursor_of, with_cursor, is_place_used}
 use Rattle.arena_rules.specs.Search.{place}
-use Rattle.arena_rules.specs.Moves.{Outcome, Resizing, alloc, shrink, shrink_step, grow, resize, down_to, placed, stays, fails, unasked}
+use Rattle.arena_rules.specs.Moves.{Outcome, Resizing, alloc, shrink, shrink_step, grow, resize, down_to, placed, stays, fails}
 use Rattle.arena_rules.specs.Blocks.{IsNewBlock, IsMovedBlock, IsBlock, LieBeside, padded_size}
 use Rattle.arena_rules.specs.declared.place.Place.{Place}
 use Rattle.arena_rules.proofs.RoundingLemmas.{down_le, down_mod, up_ge, up_mono, sum_multiple, power_multiple, max_power, min_align_power, min_align_positive, layout_power}
@@ -15,11 +14,9 @@ use Rattle.arena_rules.proofs.CursorLemmas.{start_positive, cursor_within, curso
 use Rattle.arena_rules.proofs.UsedLemmas.{used_set, used_part, used_from, used_beside}
 use Rattle.arena_rules.proofs.NewBlockLemmas.{is_allocated, alloc_valid}
 use Rattle.arena_rules.proofs.ReturnLemmas.{block_end, used_filled}
+use Rattle.arena_rules.proofs.AllocLemmas.{unasked_each}
 
 -- ---- The cases
-
-unasked_each : (P : Outcome → Type 0) (k : ℕ) (r outcome : Outcome) → P r → unasked k r ≡ Some outcome → P outcome
-unasked_each P k r outcome holds at = subst P (cond_some (k == 0) r outcome at).1 holds
 
 -- A fact holds after a block shrank, if it holds where it stays, where it moves up at the cursor, and where a new one is placed.
 shrink_each : (P : Outcome → Type 0) (state : State) (block : Place) (size align k : ℕ) (outcome : Outcome)

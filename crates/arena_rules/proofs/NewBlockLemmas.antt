@@ -1,16 +1,15 @@
 -- What an allocation leaves: a new block, or the state as it was.
-use Rattle.std.proofs.Common.{◌≡◌, ℕ, ◌+◌, ◌-◌, ◌<◌, ◌≤◌, max, inl, inr, refl, sym, subst, ◌∙◌, arith, Some, None, Option, IsTrue, length}
-use Rattle.std.specs.Prelude.{MatchOption, slice_get, ◌==◌}
-use Rattle.std.proofs.lemmas.Option.{same_Some, cond_some}
-use Rattle.arena_rules.specs.Rounding.{down, is_power}
+use Rattle.std.proofs.Common.{◌≡◌, ℕ, ◌+◌, ◌<◌, ◌≤◌, inl, inr, refl, arith, Some, None, IsTrue}
+use Rattle.std.specs.Prelude.{MatchOption}
+use Rattle.arena_rules.specs.Rounding.{is_power}
 use Rattle.arena_rules.specs.State.{State, IsValid, start_of, cursor_of, is_range_used}
-use Rattle.arena_rules.specs.Search.{place, asked}
-use Rattle.arena_rules.specs.Moves.{Outcome, alloc, alloc_at, alloc_in_new, placed, fails, with_chunk}
+use Rattle.arena_rules.specs.Search.{place}
+use Rattle.arena_rules.specs.Moves.{Outcome, alloc, placed, with_chunk}
 use Rattle.arena_rules.specs.Blocks.{IsNewBlock, LieBeside}
 use Rattle.arena_rules.proofs.RoundingLemmas.{up_least, min_align_positive}
-use Rattle.arena_rules.proofs.PlaceLemmas.{IsPlace, is_place}
-use Rattle.arena_rules.proofs.CursorLemmas.{top_set, top_floor, start_positive, cursor_within, cursor_aligned, valid_moved}
-use Rattle.arena_rules.proofs.AllocLemmas.{is_granted, growing_of}
+use Rattle.arena_rules.proofs.PlaceLemmas.{IsPlace}
+use Rattle.arena_rules.proofs.CursorLemmas.{top_set, top_floor, cursor_within, cursor_aligned, valid_moved}
+use Rattle.arena_rules.proofs.AllocLemmas.{alloc_valid_each}
 use Rattle.arena_rules.proofs.UsedLemmas.{used_set, used_grown, used_under, used_beside, used_from}
 
 -- a padded block below the cursor is apart from what was in use
@@ -71,28 +70,10 @@ in_new state size align p e valid grown place = record {
 
 pub is_allocated : (state : State) (size align k : ℕ) (outcome : Outcome) → IsValid state → IsTrue (is_power align)
     → alloc state size align k ≡ Some outcome → IsAllocated state size align outcome
-unfolding alloc
-is_allocated state size align k outcome valid power step = by_place (place state size align) refl step
-  where
-    by_chunk : (o : Option (ℕ × ℕ)) → slice_get (asked state size align) k ≡ o → place state size align ≡ None
-        → alloc_in_new o state size align k ≡ Some outcome → IsAllocated state size align outcome
-    by_chunk (Some e) found none at =
-        let p : ℕ = down (e.0 + e.1 - size) (max align state.min_align) in
-        let granted = is_granted state size align k e p valid (growing_of state size align k e found) power none found refl in
-        let step : alloc_in_new (Some e) state size align k ≡ Some (placed (with_chunk e state) p) = rw (none, found) at granted.step in
-        subst (IsAllocated state size align) (same_Some (placed (with_chunk e state) p) outcome (sym step ∙ at))
-        (in_new state size align p e valid granted.valid granted.place)
-    by_chunk None found none at =
-        subst (IsAllocated state size align) (cond_some (k == length (asked state size align)) (fails state) outcome at).1
-        (record { valid = valid; answer = refl })
-
-    by_place : (o : Option ℕ) → place state size align ≡ o → alloc_at o state size align k ≡ Some outcome
-        → IsAllocated state size align outcome
-    by_place (Some p) found at =
-        let place = is_place (start_of state.chunks) (cursor_of state.chunks) size align state.min_align p
-        (start_positive state valid) power valid.min_align found in
-        subst (IsAllocated state size align) (cond_some (k == 0) (placed state p) outcome at).1 (in_newest state size align p valid place)
-    by_place None none at = by_chunk (slice_get (asked state size align) k) refl none at
+is_allocated state size align k outcome valid power =
+    alloc_valid_each (IsAllocated state size align) state size align k outcome valid power
+    (λ p found. in_newest state size align p valid) (λ e p none grown. in_new state size align p e valid grown)
+    (λ none. record { valid = valid; answer = refl })
 
 -- A new block was free.
 pub is_new_block : (state : State) (size align k p : ℕ) (new : State) → IsValid state → IsTrue (is_power align)

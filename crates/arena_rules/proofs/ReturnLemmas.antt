@@ -1,10 +1,10 @@
 -- Blocks that are given back.
-use Rattle.std.proofs.Common.{◌≡◌, ℕ, ◌+◌, ◌%◌, ◌<◌, ◌≤◌, inl, inr, refl, ap, sym, subst, ◌∙◌, arith, List, [], ◌∷◌, IsTrue, Bool, eq-eqb, ne_eqb, sum, map}
+use Rattle.std.proofs.Common.{◌≡◌, ℕ, ◌+◌, ◌<◌, ◌≤◌, inl, inr, refl, ap, sym, subst, ◌∙◌, arith, List, [], ◌∷◌, IsTrue, Bool, eq-eqb, ne_eqb, sum, map}
 use Rattle.std.specs.Prelude.{◌==◌, ◌||◌}
-use Rattle.std.proofs.lemmas.Bool.{or_left, or_right, cases_eq, cases_lt}
+use Rattle.std.proofs.lemmas.Bool.{cases_eq, cases_lt}
 use Rattle.std.proofs.lemmas.Bool.Decides.{nat_tests}
 use Rattle.arena_rules.specs.Rounding.{up}
-use Rattle.arena_rules.specs.State.{State, Chunk, IsValid, start_of, cursor_of, top_of, with_cursor, with_newest_cursor, is_range_used, allocated_bytes, AreApart}
+use Rattle.arena_rules.specs.State.{State, Chunk, IsValid, start_of, cursor_of, top_of, with_cursor, with_newest_cursor, is_range_used, allocated_bytes}
 use Rattle.arena_rules.specs.Moves.{dealloc}
 use Rattle.arena_rules.specs.State.{is_place_used}
 use Rattle.arena_rules.specs.Blocks.{padded_size, LieBeside}
@@ -24,7 +24,7 @@ unfolding dealloc
 dealloc_elsewhere state p size other = rw (ne_eqb _ _ other) refl
 
 -- A property of states holds after a block was given back, if it held before and holds at the new cursor.
-dealloc_by : (P : State → Type 0) (state : State) (p size : ℕ)
+pub dealloc_by : (P : State → Type 0) (state : State) (p size : ℕ)
     → (p ≡ cursor_of state.chunks → P (with_cursor (up (p + size) state.min_align) state)) → P state → P (dealloc state p size)
 dealloc_by P state p size moved still = elim (cases_eq p (cursor_of state.chunks)) [
   | inl at ↦ subst P (sym (dealloc_at state p size at)) (moved at)
@@ -122,29 +122,6 @@ dealloc_empty state p valid =
     (λ at. ap (λ (q : ℕ). with_cursor (up q state.min_align) state) (omega (arith, at))
     ∙ ap (λ (q : ℕ). with_cursor q state) (up_same (cursor_of state.chunks) state.min_align positive aligned)
     ∙ ap (λ (chunks : List Chunk). record state { chunks = chunks }) (cursor_same state.chunks)) refl
-
--- A place apart from the block stays in use, if it begins at a multiple of the least alignment.
-pub place_kept : (state : State) (block other : Place) → IsValid state → other.addr % state.min_align ≡ 0
-    → AreApart block.addr block.size other.addr other.size → IsTrue (is_place_used state other)
-    → IsTrue (is_place_used (dealloc state block.addr block.size) other)
-place_kept state block other valid aligned apart used =
-    let positive = min_align_positive state.min_align valid.min_align in
-    elim (cases_lt 0 other.size) [
-      | inr none ↦ or_left (other.size == 0) (is_range_used (dealloc state block.addr block.size).chunks other.addr other.size)
-          (eq-eqb _ _ (omega arith))
-      | inl some ↦ elim (cases_lt 0 block.size) [
-        | inr none ↦ let empty : block.size ≡ 0 = omega arith in
-            subst (λ (s : State). IsTrue (is_place_used s other))
-            (sym (ap (dealloc state block.addr) empty ∙ dealloc_empty state block.addr valid)) used
-        | inl filled ↦
-            or_right (other.size == 0) (is_range_used (dealloc state block.addr block.size).chunks other.addr other.size)
-            (dealloc_keeps state block.addr block.size other.addr other.size some (used_filled state other some used)
-            (λ padded many. elim (apart filled some) [
-              | inl behind ↦ inl (omega (arith, up_least (block.addr + block.size) state.min_align other.addr positive aligned behind))
-              | inr before ↦ inr before
-            ]))
-      ]
-    ]
 
 -- Nothing comes into use.
 pub dealloc_fewer : (state : State) (p size addr n : ℕ) → IsValid state → IsTrue (is_range_used (dealloc state p size).chunks addr n)

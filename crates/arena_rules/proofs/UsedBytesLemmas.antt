@@ -1,17 +1,16 @@
 -- How many bytes of the chunks are used after each move.
-use Rattle.std.proofs.Common.{◌≡◌, ℕ, ◌+◌, ◌-◌, ◌%◌, ◌^◌, ◌<◌, ◌≤◌, refl, sym, subst, ◌∙◌, arith, Option, Some, None, List, [], ◌∷◌, IsTrue, sum, map, length}
-use Rattle.std.specs.Prelude.{MatchOption, slice_get, ◌==◌}
+use Rattle.std.proofs.Common.{◌≡◌, ℕ, ◌+◌, ◌-◌, ◌%◌, ◌^◌, ◌<◌, ◌≤◌, arith, Option, Some, None, List, [], ◌∷◌, IsTrue, sum, map}
+use Rattle.std.specs.Prelude.{MatchOption}
 use Rattle.std.proofs.lemmas.List.Sums.{sum_by-cons}
-use Rattle.std.proofs.lemmas.Option.{same_Some, cond_some}
-use Rattle.arena_rules.specs.Rounding.{down, is_power}
+use Rattle.arena_rules.specs.Rounding.{is_power}
 use Rattle.arena_rules.specs.State.{State, Chunk, AreChunks, IsValid, start_of, cursor_of, top_of, with_cursor, with_newest_cursor, used_length, used_bytes, allocated_bytes, floor_of}
-use Rattle.arena_rules.specs.Search.{place, asked}
-use Rattle.arena_rules.specs.Moves.{Outcome, alloc, alloc_at, alloc_in_new, placed, fails, with_chunk}
+use Rattle.arena_rules.specs.Search.{place}
+use Rattle.arena_rules.specs.Moves.{Outcome, alloc, with_chunk}
 use Rattle.arena_rules.specs.Used.{taken, unit_of, placed_below}
 use Rattle.arena_rules.proofs.RoundingLemmas.{down_le, down_close, down_same, difference_multiple, power_multiple, max_power, pow_power, min_align_power, min_align_le, min_align_positive}
-use Rattle.arena_rules.proofs.PlaceLemmas.{IsPlace, is_place}
-use Rattle.arena_rules.proofs.CursorLemmas.{start_positive, cursor_within, top_units}
-use Rattle.arena_rules.proofs.AllocLemmas.{IsGranted, is_granted, growing_of}
+use Rattle.arena_rules.proofs.PlaceLemmas.{IsPlace}
+use Rattle.arena_rules.proofs.CursorLemmas.{cursor_within, top_units}
+use Rattle.arena_rules.proofs.AllocLemmas.{alloc_valid_each}
 use Rattle.arena_rules.proofs.NewBlockLemmas.{alloc_valid}
 
 -- ---- How much a cursor moves
@@ -105,38 +104,20 @@ in_newest state size align p valid place =
     record { fits = omega (arith, place.high); used = omega (arith, moved, place.is, place.high) }
 
 -- a place in a chunk that was granted
-in_new : (state : State) (size align k : ℕ) (e : ℕ × ℕ) (p : ℕ) → IsGranted state size align k e p
-    → IsTaken state (with_cursor p (with_chunk e state)) (e.0 + e.1) size align
-in_new state size align k e p granted =
-    let place = granted.place in
-    let moved = used_at (with_chunk e state) p granted.valid place.low (omega (arith, place.high)) in
+in_new : (state : State) (size align : ℕ) (e : ℕ × ℕ) (p : ℕ) → IsValid (with_chunk e state)
+    → IsPlace e.0 (e.0 + e.1) size align state.min_align p → IsTaken state (with_cursor p (with_chunk e state)) (e.0 + e.1) size align
+in_new state size align e p grown place =
+    let moved = used_at (with_chunk e state) p grown place.low (omega (arith, place.high)) in
     record { fits = omega (arith, place.high); used = omega (arith, moved, used_with_chunk state e, place.is, place.high) }
 
 -- an allocation that succeeds moves a cursor down
 alloc_from : (state : State) (size align k : ℕ) (outcome : Outcome) → IsValid state → IsTrue (is_power align)
     → alloc state size align k ≡ Some outcome
     → TakesFrom state (place state size align) size align outcome
-unfolding alloc
-alloc_from state size align k outcome valid power step = by_place (place state size align) refl step
-  where
-    by_chunk : (o : Option (ℕ × ℕ)) → slice_get (asked state size align) k ≡ o → place state size align ≡ None
-        → alloc_in_new o state size align k ≡ Some outcome → TakesFrom state None size align outcome
-    by_chunk (Some e) found none at =
-        let p : ℕ = down (e.0 + e.1 - size) (unit_of state align) in
-        let granted = is_granted state size align k e p valid (growing_of state size align k e found) power none found refl in
-        subst (TakesFrom state None size align) (same_Some (placed (with_chunk e state) p) outcome (sym granted.step ∙ step))
-        (in_new state size align k e p granted)
-    by_chunk None found none at =
-        subst (TakesFrom state None size align) (cond_some (k == length (asked state size align)) (fails state) outcome at).1 tt
-
-    by_place : (o : Option ℕ) → place state size align ≡ o → alloc_at o state size align k ≡ Some outcome
-        → TakesFrom state o size align outcome
-    by_place (Some p) found at =
-        let spot = is_place (start_of state.chunks) (cursor_of state.chunks) size align state.min_align p
-        (start_positive state valid) power valid.min_align found in
-        subst (TakesFrom state (Some p) size align) (cond_some (k == 0) (placed state p) outcome at).1
-        (in_newest state size align p valid spot)
-    by_place None none at = by_chunk (slice_get (asked state size align) k) refl none at
+alloc_from state size align k outcome valid power =
+    alloc_valid_each (TakesFrom state (place state size align) size align) state size align k outcome valid power
+    (λ p found spot. rw found (in_newest state size align p valid spot))
+    (λ e p none grown spot. rw none (in_new state size align e p grown spot)) (λ none. tt)
 
 -- an allocation that returned p
 pub alloc_taken : (state new : State) (size align k p : ℕ) → IsValid state → IsTrue (is_power align)

@@ -6,11 +6,11 @@ use Rattle.arena_rules.proofs.CursorLemmas.{top_le}
 use Rattle.arena_rules.specs.State.{State, Chunk, AreChunks, IsValid, start_of, cursor_of, top_of, floor_of, data_end, with_newest_cursor, is_used_by, is_range_used}
 
 -- the bounds that the test compares
-record IsWithin (addr n : ℕ) (chunk : Chunk) : Type 0 where
-  low : chunk.cursor ≤ addr
-  high : addr + n ≤ data_end chunk
+pub record IsWithin (addr n : ℕ) (chunk : Chunk) : Type 0 where
+  pub low : chunk.cursor ≤ addr
+  pub high : addr + n ≤ data_end chunk
 
-within : (addr n : ℕ) (chunk : Chunk) → IsTrue (is_used_by addr n chunk) → IsWithin addr n chunk
+pub within : (addr n : ℕ) (chunk : Chunk) → IsTrue (is_used_by addr n chunk) → IsWithin addr n chunk
 within addr n chunk used = record { low = grind (arith, nat_tests); high = grind (arith, nat_tests) }
 
 -- a range in the newest chunk stays in use if the cursor moves to a place below it

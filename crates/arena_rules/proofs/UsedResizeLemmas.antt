@@ -85,41 +85,6 @@ grow_used state p size align new_size new_align k q outcome valid is step =
     let after = resize_moves state (growing state p size align new_size new_align) p new_size new_align k q outcome is step in
     rw after (omega (arith, moved, growth.at, growth.place.high))
 
--- the distance: what it needs, plus what aligns its place
-pub growth_taken : (state : State) (p size align new_size new_align q : ℕ) → IsValid state
-    → growing state p size align new_size new_align ≡ Moves q
-    → p - q ≡ taken p (growth state size new_size) (unit_of state align)
-growth_taken state p size align new_size new_align q valid is =
-    let growth = is_growth state p size align new_size new_align q valid is in rw growth.at (omega (arith, growth.place.is))
-
--- it moves down
-pub growth_lower : (state : State) (p size align new_size new_align q : ℕ) → IsValid state
-    → growing state p size align new_size new_align ≡ Moves q → q ≤ p
-growth_lower state p size align new_size new_align q valid is =
-    let growth = is_growth state p size align new_size new_align q valid is in omega (arith, growth.at, growth.place.high)
-
--- by at least what it grows by
-pub growth_least : (state : State) (p size align new_size new_align q : ℕ) → IsValid state
-    → growing state p size align new_size new_align ≡ Moves q
-    → new_size - size ≤ p - q
-growth_least state p size align new_size new_align q valid is =
-    let growth = is_growth state p size align new_size new_align q valid is in
-    omega (arith, growth.at, growth.place.high, up_ge new_size state.min_align (min_align_positive state.min_align valid.min_align))
-
--- by less than the least alignment and less than a unit more
-pub growth_most : (state : State) (p size align new_size new_align q : ℕ) → IsValid state
-    → growing state p size align new_size new_align ≡ Moves q
-    → p - q ≤ new_size - size + (state.min_align - 1) + (unit_of state align - 1)
-growth_most state p size align new_size new_align q valid is =
-    let growth = is_growth state p size align new_size new_align q valid is in
-    omega (
-      arith,
-      growth_taken state p size align new_size new_align q valid is,
-      taken_most p (up new_size state.min_align - size) (unit_of state align) (unit_positive state align valid)
-          (omega (arith, growth.at, growth.place.high)),
-      up_close new_size state.min_align (min_align_positive state.min_align valid.min_align),
-    )
-
 -- a multiple of both alignments is one of the greater
 unit_multiple : (state : State) (p align : ℕ) → p % align ≡ 0 → p % state.min_align ≡ 0 → p % unit_of state align ≡ 0
 unit_multiple state p align first second = elim (cases_lt align state.min_align) [
@@ -127,18 +92,44 @@ unit_multiple state p align first second = elim (cases_lt align state.min_align)
   | inr more ↦ let same : unit_of state align ≡ align = omega arith in rw same first
 ]
 
--- a block that grows by whole units to a multiple of the least alignment takes exactly that
-pub growth_exact : (state : State) (p size align new_size new_align q : ℕ) → IsValid state
-    → growing state p size align new_size new_align ≡ Moves q
-    → p % align ≡ 0 → new_size % state.min_align ≡ 0 → (new_size - size) % unit_of state align ≡ 0 → p - q ≡ new_size - size
-growth_exact state p size align new_size new_align q valid is aligned whole by =
-    let at = is_growth state p size align new_size new_align q valid is in
-    let positive = min_align_positive state.min_align valid.min_align in
-    let needs : growth state size new_size ≡ new_size - size = ap (λ (n : ℕ). n - size) (up_same new_size state.min_align positive whole) in
-    let low : p % state.min_align ≡ 0 = rw at.at (cursor_aligned state valid) in
-    growth_taken state p size align new_size new_align q valid is ∙ ap (λ (n : ℕ). taken p n (unit_of state align)) needs
-    ∙ taken_exact p (new_size - size) (unit_of state align) (unit_positive state align valid) (omega (arith, at.at, at.place.high, needs))
-    (unit_multiple state p align aligned low) by
+module _ (state : State) (p size align new_size new_align q : ℕ) (valid : IsValid state)
+    (is : growing state p size align new_size new_align ≡ Moves q) where
+  grows : IsGrowth state p size align new_size q
+  grows = is_growth state p size align new_size new_align q valid is
+
+  positive : 0 < state.min_align
+  positive = min_align_positive state.min_align valid.min_align
+
+  -- the distance: what it needs, plus what aligns its place
+  pub growth_taken : p - q ≡ taken p (growth state size new_size) (unit_of state align)
+  growth_taken = rw grows.at (omega (arith, grows.place.is))
+
+  -- it moves down
+  pub growth_lower : q ≤ p
+  growth_lower = omega (arith, grows)
+
+  -- by at least what it grows by
+  pub growth_least : new_size - size ≤ p - q
+  growth_least = omega (arith, grows, up_ge new_size state.min_align positive)
+
+  -- by less than the least alignment and less than a unit more
+  pub growth_most : p - q ≤ new_size - size + (state.min_align - 1) + (unit_of state align - 1)
+  growth_most = omega (
+    arith,
+    growth_taken,
+    taken_most p (up new_size state.min_align - size) (unit_of state align) (unit_positive state align valid) (omega (arith, grows)),
+    up_close new_size state.min_align positive,
+  )
+
+  -- a block that grows by whole units to a multiple of the least alignment takes exactly that
+  pub growth_exact : p % align ≡ 0 → new_size % state.min_align ≡ 0 → (new_size - size) % unit_of state align ≡ 0
+      → p - q ≡ new_size - size
+  growth_exact aligned whole by =
+      let needs : growth state size new_size ≡ new_size - size = ap (λ (n : ℕ). n - size) (up_same new_size state.min_align positive whole) in
+      let low : p % state.min_align ≡ 0 = rw grows.at (cursor_aligned state valid) in
+      growth_taken ∙ ap (λ (n : ℕ). taken p n (unit_of state align)) needs
+      ∙ taken_exact p (new_size - size) (unit_of state align) (unit_positive state align valid) (omega (arith, grows, needs))
+      (unit_multiple state p align aligned low) by
 
 -- so does a block that grows by a multiple of its alignment, where the least one is 1
 pub growth_exact_at_one : (state : State) (p size align new_size new_align q : ℕ) → IsValid state → state.min_align ≡ 1
@@ -199,22 +190,21 @@ is_shrinkage state p size align new_size new_align q =
     record { at = eqb-true _ _ parts.0; is = cc; half = leb-true _ _ parts.1 })
     (λ other is. cc))
 
--- it moves up
-pub shrinkage_higher : (state : State) (p size align new_size new_align q : ℕ) → shrinking state p size align new_size new_align ≡ Moves q
-    → p ≤ q
-shrinkage_higher state p size align new_size new_align q is = omega (arith, is_shrinkage state p size align new_size new_align q is)
+module _ (state : State) (p size align new_size new_align q : ℕ) (is : shrinking state p size align new_size new_align ≡ Moves q) where
+  shrinks : IsShrinkage state p size new_size new_align q
+  shrinks = is_shrinkage state p size align new_size new_align q is
 
--- by at least half of its size
-pub shrinkage_half : (state : State) (p size align new_size new_align q : ℕ) → shrinking state p size align new_size new_align ≡ Moves q
-    → size ≤ 2 * (q - p)
-shrinkage_half state p size align new_size new_align q is = let moves = is_shrinkage state p size align new_size new_align q is in
-    rw moves.is (omega (arith, moves.half))
+  -- it moves up
+  pub shrinkage_higher : p ≤ q
+  shrinkage_higher = omega (arith, shrinks)
 
--- it moves up by no more than it gives back
-pub shrinkage_most : (state : State) (p size align new_size new_align q : ℕ) → shrinking state p size align new_size new_align ≡ Moves q
-    → q - p ≤ size - new_size
-shrinkage_most state p size align new_size new_align q is =
-    omega (arith, is_shrinkage state p size align new_size new_align q is, down_le (size - new_size) (max new_align state.min_align))
+  -- by at least half of its size
+  pub shrinkage_half : size ≤ 2 * (q - p)
+  shrinkage_half = omega (arith, shrinks)
+
+  -- it moves up by no more than it gives back
+  pub shrinkage_most : q - p ≤ size - new_size
+  shrinkage_most = omega (arith, shrinks, down_le (size - new_size) (max new_align state.min_align))
 
 -- and by less than a unit less
 pub shrinkage_least : (state : State) (p size align new_size new_align q : ℕ) → IsValid state

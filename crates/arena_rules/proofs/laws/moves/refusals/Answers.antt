@@ -1,5 +1,5 @@
 use Rattle.arena_rules.proofs.RoundingLemmas.{layout_power}
-use Rattle.arena_rules.proofs.RefusalLemmas.{step_in_place, step_in_new, asked_most}
+use Rattle.arena_rules.proofs.AllocLemmas.{step_in_place, step_in_new, asked_most}
 use Rattle.arena_rules.proofs.laws.moves.refusals.Goals as goal
 
 pub returns : goal.returns
