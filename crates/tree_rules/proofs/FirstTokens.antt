@@ -1,13 +1,13 @@
 -- Tokens that are accepted one by one, the beginnings of a program, and numbers.
-use Rattle.std.proofs.Common.{◌≡◌, ℕ, ◌^◌, ◌≤◌, ◌<◌, max, Bool, true, false, cond, Option, Some, None, List, [], ◌∷◌, ◌++◌, length, refl, sym, ap, ◌∙◌, subst, arith, append_assoc, append-nil}
+use Rattle.std.proofs.Common.{◌≡◌, ℕ, ◌^◌, ◌≤◌, ◌<◌, max, Bool, true, false, cond, Option, Some, None, List, [], ◌∷◌, ◌++◌, length, refl, sym, ◌∙◌, subst, arith, append_assoc, append-nil}
 use Rattle.std.specs.Prelude.{nat_le}
 use Rattle.std.proofs.lemmas.Bool.Decides.{nat_tests}
 use Rattle.std.proofs.lemmas.Option.{none-some}
-use Rattle.tree_rules.specs.Tokens.{Token, LetKey, Word, Number, Plus, Minus, Star, LeftParen, RightParen, LeftBrace, RightBrace, Equals, Semicolon, Other}
+use Rattle.tree_rules.specs.Tokens.{Token, Number}
 use Rattle.tree_rules.specs.Grammar.{Program, spell, nest, Begins, BeginsWithin}
 use Rattle.tree_rules.specs.Refusals.{Fits}
 use Rattle.tree_rules.specs.Reading.{State, step, start, is_too_big}
-use Rattle.tree_rules.proofs.StepLemmas.{goes, kept, and_then, program_goes}
+use Rattle.tree_rules.proofs.StepLemmas.{goes, kept, and_then, goes_step, program_goes}
 use Rattle.tree_rules.proofs.ProgramPlaces.{Leads, leads_first, leads_on, leads_begin}
 
 -- ---- Accepting tokens
@@ -31,13 +31,6 @@ goes_first most s t ts end e = by (step s t) refl e
     by : (o : Option State) → step s t ≡ o → and_then (kept most o) (λ n. goes most n ts) ≡ Some end → Goes most s t ts end
     by None is rest = absurd (none-some end rest)
     by (Some next) is rest = kept_first next is (nat_le (length next.opens) most) refl rest
-
-pub goes_step : (most : ℕ) (s : State) (t : Token) (ts : List Token) (next : State) → step s t ≡ Some next → length next.opens ≤ most
-    → goes most s (t ∷ ts) ≡ goes most next ts
-unfolding goes
-goes_step most s t ts next is low =
-    let test : nat_le (length next.opens) most ≡ true = grind (arith, nat_tests) in
-    rw is (rw test refl)
 
 -- over the first tokens, and then over the rest
 pub record GoesApart (most : ℕ) (s : State) (front rest : List Token) (end : State) : Type 0 where
@@ -99,21 +92,14 @@ begun most front b =
     most b.within)) in
     (a.mid, a.first)
 
-pub record Steps (most : ℕ) (s : State) (t : Token) : Type 0 where
-  pub next : State
-  pub step_is : step s t ≡ Some next
-  pub low : length next.opens ≤ most
-
 pub begun_step : (most : ℕ) (least : ℕ) (front : List Token) (t : Token) (s : State) → goes least start front ≡ Some s
-    → BeginsWithin most (front ++ t ∷ [])
-    → Steps most s t
+    → (b : BeginsWithin most (front ++ t ∷ [])) → Goes most s t b.more start
 begun_step most least front t s is b =
     let all : spell b.program [] ≡ front ++ t ∷ b.more = b.tokens_are ∙ append_assoc front (t ∷ []) b.more in
     let a = goes_apart most start start front (t ∷ b.more) (subst (λ ts. goes most start ts ≡ Some start) all (program_over b.program
     most b.within)) in
-    let g = goes_first most a.mid t b.more start a.then in
     let same : a.mid ≡ s = one_state most least start a.mid s front a.first is in
-    record { next = g.next; step_is = ap (λ (n : State). step n t) (sym same) ∙ g.step_is; low = g.low }
+    subst (λ n. Goes most n t b.more start) same (goes_first most a.mid t b.more start a.then)
 
 pub begins_within : (ts : List Token) (b : Begins ts) → BeginsWithin (nest b.program) ts
 begins_within ts b = record { program = b.program; more = b.more; tokens_are = b.tokens_are; within = omega arith }
@@ -145,18 +131,7 @@ size_fits (Number n) = (small n, below n)
 
     below : (n : ℕ) → nat_le (2 ^ 64) n ≡ false → n < 2 ^ 64
     below n e = grind (arith, nat_tests)
-size_fits LetKey = (λ h. refl, λ e. tt)
-size_fits (Word bytes) = (λ h. refl, λ e. tt)
-size_fits Plus = (λ h. refl, λ e. tt)
-size_fits Minus = (λ h. refl, λ e. tt)
-size_fits Star = (λ h. refl, λ e. tt)
-size_fits LeftParen = (λ h. refl, λ e. tt)
-size_fits RightParen = (λ h. refl, λ e. tt)
-size_fits LeftBrace = (λ h. refl, λ e. tt)
-size_fits RightBrace = (λ h. refl, λ e. tt)
-size_fits Equals = (λ h. refl, λ e. tt)
-size_fits Semicolon = (λ h. refl, λ e. tt)
-size_fits Other = (λ h. refl, λ e. tt)
+size_fits _ = (λ h. refl, λ e. tt)
 
 pub big_not_fit : (t : Token) → is_too_big t ≡ true → Fits t → ⊥
 big_not_fit t big h = let small = (size_fits t).0 h in absurd (cc)

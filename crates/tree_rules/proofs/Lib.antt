@@ -11,7 +11,6 @@ mod FitLemmas
 mod RoundTrip
 mod WellFormedLemmas
 mod FoldLemmas
-mod ReportLemmas
 mod WeightLemmas
 pub mod NameLemmas
 pub mod FindingLemmas

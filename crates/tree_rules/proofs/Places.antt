@@ -1,7 +1,7 @@
 -- Each state that the machine reaches is that of a place in a program.
 use Rattle.std.proofs.Common.{◌≡◌, ℕ, suc, ◌+◌, ◌≤◌, Some, List, ◌∷◌, length, refl, sym, ap, ◌∙◌, arith}
 use Rattle.std.proofs.lemmas.Option.{none-some, same_Some}
-use Rattle.tree_rules.specs.Tokens.{Token, LetKey, Word, Number, Plus, Minus, Star, LeftParen, RightParen, LeftBrace, RightBrace, Equals, Semicolon, Other}
+use Rattle.tree_rules.specs.Tokens.{Token, LetKey, Word, Number, Plus, Minus, Star, LeftParen, RightParen, LeftBrace, RightBrace, Equals, Semicolon}
 use Rattle.tree_rules.specs.Grammar.{Factor, ANumber, AName, InParens, Negated, Factors, OneFactor, Times, Terms, OneTerm, Added, Taken, Line, LetLine, ShowLine, BlockLine, Empty, Next, spell_factor, spell_factors, spell_terms, spell_line, factor_nest, factors_nest, terms_nest, line_nest}
 use Rattle.tree_rules.specs.declared.machine.Mode.TheVariants.{AtLine, AtName, AtEquals, AtFactor, BehindFactor}
 use Rattle.tree_rules.specs.Reading.{State, state, signs_ended, step, step_in, factor_step, close_paren, close_brace, end_line}
@@ -88,13 +88,11 @@ around (ToTake s h) = h
 terms_before : (h : TermHole) (t : Factors) (more : List Token)
     → before_expr (around h) (spell_terms (terms_done h t) more) ≡ before_term h (spell_factors t more)
 terms_before (FirstTerm h) t more = refl
-terms_before (ToAdd s h) t more = refl
-terms_before (ToTake s h) t more = refl
+terms_before _ t more = refl
 
 terms_open : (h : TermHole) → open_at_expr (around h) ≡ open_at_term h
 terms_open (FirstTerm h) = refl
-terms_open (ToAdd s h) = refl
-terms_open (ToTake s h) = refl
+terms_open _ = refl
 
 terms_fit : (h : TermHole) (t : Factors) (most : ℕ) → factors_nest t + length (open_at_term h) ≤ most → TermFits h most
     → (terms_nest (terms_done h t) + length (open_at_expr (around h)) ≤ most) × ExprFits (around h) most
@@ -167,15 +165,7 @@ at_factor most h Minus next e = record {
   before_is = λ more. refl;
   fits = λ fits low. let is : suc (length (open_at_factor h)) ≤ most = rw (sym (same_Some _ next e)) at low in (is, (is, fits.1));
 }
-at_factor most h LetKey next e = absurd (none-some next e)
-at_factor most h Plus next e = absurd (none-some next e)
-at_factor most h Star next e = absurd (none-some next e)
-at_factor most h RightParen next e = absurd (none-some next e)
-at_factor most h LeftBrace next e = absurd (none-some next e)
-at_factor most h RightBrace next e = absurd (none-some next e)
-at_factor most h Equals next e = absurd (none-some next e)
-at_factor most h Semicolon next e = absurd (none-some next e)
-at_factor most h Other next e = absurd (none-some next e)
+at_factor most h _ next e = absurd (none-some next e)
 
 -- an expression begins where a statement may
 abbrev pub shown : LineHole → FactorHole
@@ -213,12 +203,7 @@ at_line most h (Word bytes) next e = at_factor most (shown h) (Word bytes) next 
 at_line most h (Number n) next e = at_factor most (shown h) (Number n) next e
 at_line most h LeftParen next e = at_factor most (shown h) LeftParen next e
 at_line most h Minus next e = at_factor most (shown h) Minus next e
-at_line most h Plus next e = absurd (none-some next e)
-at_line most h Star next e = absurd (none-some next e)
-at_line most h RightParen next e = absurd (none-some next e)
-at_line most h Equals next e = absurd (none-some next e)
-at_line most h Semicolon next e = absurd (none-some next e)
-at_line most h Other next e = absurd (none-some next e)
+at_line most h _ next e = absurd (none-some next e)
 
 at_name : (most : ℕ) (h : LineHole) (t : Token) (next : State) → step_in AtName (open_at_line h) t ≡ Some next
     → Comes most (λ more. before_line h (LetKey ∷ t ∷ more)) (PlaceFits most (LinePlace h)) next
@@ -228,18 +213,7 @@ at_name most h (Word bytes) next e = record {
   before_is = λ more. refl;
   fits = λ fits low. fits;
 }
-at_name most h LetKey next e = absurd (none-some next e)
-at_name most h (Number n) next e = absurd (none-some next e)
-at_name most h Plus next e = absurd (none-some next e)
-at_name most h Minus next e = absurd (none-some next e)
-at_name most h Star next e = absurd (none-some next e)
-at_name most h LeftParen next e = absurd (none-some next e)
-at_name most h RightParen next e = absurd (none-some next e)
-at_name most h LeftBrace next e = absurd (none-some next e)
-at_name most h RightBrace next e = absurd (none-some next e)
-at_name most h Equals next e = absurd (none-some next e)
-at_name most h Semicolon next e = absurd (none-some next e)
-at_name most h Other next e = absurd (none-some next e)
+at_name most h _ next e = absurd (none-some next e)
 
 at_equals : (most : ℕ) (h : LineHole) (name : List ℕ) (t : Token) (next : State) → step_in AtEquals (open_at_line h) t ≡ Some next
     → Comes most (λ more. before_line h (LetKey ∷ Word name ∷ t ∷ more)) (PlaceFits most (LinePlace h)) next
@@ -249,18 +223,7 @@ at_equals most h name Equals next e = record {
   before_is = λ more. refl;
   fits = λ fits low. fits;
 }
-at_equals most h name LetKey next e = absurd (none-some next e)
-at_equals most h name (Word bytes) next e = absurd (none-some next e)
-at_equals most h name (Number n) next e = absurd (none-some next e)
-at_equals most h name Plus next e = absurd (none-some next e)
-at_equals most h name Minus next e = absurd (none-some next e)
-at_equals most h name Star next e = absurd (none-some next e)
-at_equals most h name LeftParen next e = absurd (none-some next e)
-at_equals most h name RightParen next e = absurd (none-some next e)
-at_equals most h name LeftBrace next e = absurd (none-some next e)
-at_equals most h name RightBrace next e = absurd (none-some next e)
-at_equals most h name Semicolon next e = absurd (none-some next e)
-at_equals most h name Other next e = absurd (none-some next e)
+at_equals most h name _ next e = absurd (none-some next e)
 
 abbrev TermsFit : ExprHole → Terms → ℕ → Type 0
 TermsFit h s most = (terms_nest s + length (open_at_expr h) ≤ most) × ExprFits h most
@@ -327,14 +290,7 @@ at_behind most f h RightParen next e =
 at_behind most f h Semicolon next e =
     comes_as most _ _ _ _ next (λ more. terms_before h f (Semicolon ∷ more)) (λ fits. terms_fit h f most fits.0 fits.1)
     (ends_line most (around h) (terms_done h f) next (ap end_line (terms_open h) ∙ e))
-at_behind most f h LetKey next e = absurd (none-some next e)
-at_behind most f h (Word bytes) next e = absurd (none-some next e)
-at_behind most f h (Number n) next e = absurd (none-some next e)
-at_behind most f h LeftParen next e = absurd (none-some next e)
-at_behind most f h LeftBrace next e = absurd (none-some next e)
-at_behind most f h RightBrace next e = absurd (none-some next e)
-at_behind most f h Equals next e = absurd (none-some next e)
-at_behind most f h Other next e = absurd (none-some next e)
+at_behind most f h _ next e = absurd (none-some next e)
 
 pub follows : (most : ℕ) (c : Place) (t : Token) (next : State) → step (state_at c) t ≡ Some next
     → Comes most (λ more. before c (t ∷ more)) (PlaceFits most c) next

@@ -76,29 +76,25 @@ last_place (Taken s t) h = BehindPlace t (ToTake s h)
 adds : (s : Terms) (h : ExprHole) (more : List Token) → reads (last_place s h) (Plus ∷ more) ≡ reads (FactorPlace (First (ToAdd s h))) more
 unfolding reads go go_behind and_go last_place
 adds (OneTerm t) h more = refl
-adds (Added s t) h more = refl
-adds (Taken s t) h more = refl
+adds _ h more = refl
 
 takes : (s : Terms) (h : ExprHole) (more : List Token) → reads (last_place s h) (Minus ∷ more) ≡ reads (FactorPlace (First (ToTake s h)))
     more
 unfolding reads go go_behind and_go last_place
 takes (OneTerm t) h more = refl
-takes (Added s t) h more = refl
-takes (Taken s t) h more = refl
+takes _ h more = refl
 
 closes : (s : Terms) (h : FactorHole) (more : List Token)
     → reads (last_place s (Within h)) (RightParen ∷ more) ≡ reads (factor_done h (InParens s)) more
 unfolding reads go go_behind go_paren and_go last_place
 closes (OneTerm t) h more = refl
-closes (Added s t) h more = refl
-closes (Taken s t) h more = refl
+closes _ h more = refl
 
 ends : (s : Terms) (owner : Owner) (h : LineHole) (more : List Token)
     → reads (last_place s (Of owner h)) (Semicolon ∷ more) ≡ reads (LinePlace (line_added h (owned owner s))) more
 unfolding reads go go_behind go_end and_go last_place
 ends (OneTerm t) owner h more = refl
-ends (Added s t) owner h more = refl
-ends (Taken s t) owner h more = refl
+ends _ owner h more = refl
 
 mutual
   unfolding reads go go_factor go_behind and_go last_place
@@ -128,10 +124,8 @@ mutual
 
   factor_begins : (f : Factor) (h : LineHole) (more : List Token)
       → reads (LinePlace h) (spell_factor f more) ≡ reads (FactorPlace (shown h)) (spell_factor f more)
-  factor_begins (ANumber n) h more = refl
   factor_begins (AName bytes) h more = refl
-  factor_begins (InParens s) h more = refl
-  factor_begins (Negated f) h more = refl
+  factor_begins _ h more = refl
 
   factors_begin : (t : Factors) (h : LineHole) (more : List Token)
       → reads (LinePlace h) (spell_factors t more) ≡ reads (FactorPlace (shown h)) (spell_factors t more)

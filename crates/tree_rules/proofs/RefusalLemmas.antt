@@ -15,12 +15,14 @@ use Rattle.tree_rules.specs.declared.machine.Mode.TheVariants.{AtLine, AtName, A
 use Rattle.tree_rules.specs.Reading.{State, state, step, start, is_too_big, or_refused, judged, ended, ended_in, refusal_from, refusal_of, refused_by}
 use Rattle.tree_rules.specs.declared.refused.Refused.{Refused}
 use Rattle.tree_rules.specs.declared.refused.Refused.TheVariants.{Syntax, TooDeep, NumberTooBig}
-use Rattle.tree_rules.proofs.StepLemmas.{goes}
+use Rattle.tree_rules.proofs.StepLemmas.{goes, goes_step}
 use Rattle.tree_rules.proofs.Holes.{InProgram, InBlock}
-use Rattle.tree_rules.proofs.Places.{Place, LinePlace, NamePlace, EqualsPlace, FactorPlace, BehindPlace, state_at, before, PlaceFits}
+use Rattle.tree_rules.proofs.Places.{Place, LinePlace, state_at, before, PlaceFits}
 use Rattle.tree_rules.proofs.ProgramPlaces.{leads_begin}
 use Rattle.tree_rules.proofs.Readings.{one_program}
-use Rattle.tree_rules.proofs.FirstTokens.{goes_first, goes_step, one_state, leads, program_over, begun, begun_step, begins_within, begins, step_begins, step_begins_some, size_fits, big_not_fit}
+use Rattle.tree_rules.proofs.FirstTokens.{goes_first, one_state, leads, program_over, begun, begun_step, begins_within, begins, step_begins, step_begins_some, size_fits, big_not_fit}
+use Rattle.tree_rules.specs.Report.{IsReport, findings_of}
+use Rattle.tree_rules.specs.declared.finding.Finding.{Finding}
 
 -- ---- What the machine says is right
 
@@ -71,10 +73,7 @@ place_program : (most : ℕ) (ts : List Token) (c : Place) → state_at c ≡ st
     → (p : Program) × (spell p [] ≡ ts) × (nest p ≤ most)
 place_program most ts (LinePlace (InProgram p)) is before_is fits = (p, before_is [] ∙ append-nil ts, fits.1)
 place_program most ts (LinePlace (InBlock p h)) is before_is fits = absurd (not_start_open _ _ _ is)
-place_program most ts (NamePlace h) is before_is fits = absurd (not_start_mode _ _ is tt)
-place_program most ts (EqualsPlace h name) is before_is fits = absurd (not_start_mode _ _ is tt)
-place_program most ts (FactorPlace h) is before_is fits = absurd (not_start_mode _ _ is tt)
-place_program most ts (BehindPlace t h) is before_is fits = absurd (not_start_mode _ _ is tt)
+place_program most ts _ is before_is fits = absurd (not_start_mode _ _ is tt)
 
 start_passes : (all : List Placed) → IsAt all start → Passes all
 start_passes all a =
@@ -275,11 +274,7 @@ first_says end all q f =
 
 ended_other : (end : ℕ) (mode : Mode) (opens : List Open) → (state mode opens ≡ start → ⊥) → ended_in end mode opens ≡ Some (Syntax end)
 ended_other end AtLine [] other = absurd (other refl)
-ended_other end AtLine (o ∷ opens) other = refl
-ended_other end AtName opens other = refl
-ended_other end AtEquals opens other = refl
-ended_other end AtFactor opens other = refl
-ended_other end BehindFactor opens other = refl
+ended_other end _ _ other = refl
 
 over_all : (end : ℕ) (s : State) (all : List Placed) → IsAt all s → refusal_from end start all ≡ ended end s
 unfolding refusal_from
@@ -325,3 +320,20 @@ some_reading bytes = some_from bytes (refusal_of bytes) (reading bytes)
 pub machine_says : (bytes : List ℕ) (r : Result Stmts Refused) → TreeOf bytes r → refusal_of bytes ≡ refused_by r
 machine_says bytes (Ok trees) h = good_says bytes trees h
 machine_says bytes (Err q) h = err_says bytes q h
+
+-- ---- A text has exactly one report
+
+pub same_report : (bytes : List ℕ) (r s : Result (List Finding) Refused) → IsReport bytes r → IsReport bytes s → r ≡ s
+same_report bytes (Ok a) (Ok b) h g =
+    let trees : h.0 ≡ g.0 = cc (same_reading bytes (Ok h.0) (Ok g.0) h.1 g.1) in
+    ap Ok (h.2 ∙ ap findings_of trees ∙ sym g.2)
+same_report bytes (Ok a) (Err q) h g = absurd (cc (same_reading bytes (Ok h.0) (Err q) h.1 g))
+same_report bytes (Err p) (Ok b) h g = absurd (cc (same_reading bytes (Ok g.0) (Err p) g.1 h))
+same_report bytes (Err p) (Err q) h g = let same : p ≡ q = cc (same_reading bytes (Err p) (Err q) h g) in ap Err same
+
+pub some_report : (bytes : List ℕ) → (r : Result (List Finding) Refused) × IsReport bytes r
+some_report bytes = from (some_reading bytes).0 (some_reading bytes).1
+  where
+    from : (r : Result Stmts Refused) → TreeOf bytes r → (s : Result (List Finding) Refused) × IsReport bytes s
+    from (Ok trees) h = (Ok (findings_of trees), (trees, h, refl))
+    from (Err q) h = (Err q, h)

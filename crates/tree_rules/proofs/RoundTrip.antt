@@ -1,10 +1,10 @@
 -- The text of a tree is a program, and its tree is that tree.
 use Rattle.std.proofs.Common.{◌≡◌, ℕ, List, [], ◌∷◌, ◌++◌, refl, sym, ap, ◌∙◌, codes, append_assoc}
-use Rattle.tree_rules.specs.Tokens.{Token, LetKey, Word, Plus, Minus, Star, LeftParen, RightParen, LeftBrace, RightBrace, Equals, Semicolon, tokens, without_places}
+use Rattle.tree_rules.specs.Tokens.{Token, front, LetKey, Word, Plus, Minus, Star, LeftParen, RightParen, LeftBrace, RightBrace, Equals, Semicolon, tokens, without_places}
 use Rattle.call_rules.specs.Grammar.{with_feed}
 use Rattle.tree_rules.specs.Trees.{Expr, Num, Name, Neg, Sum, Prod, Exprs, NoExprs, And, with_expr, Stmt, Let, Show, Block, Stmts, NoStmts, Then, with_stmt, IsName, AreSeveral, IsExpr, AreExprs, IsStmt, AreStmts, AsExpr, AsTerm, AsFactor, expr_text, terms_text, more_terms_text, factors_text, more_factors_text, stmt_text, text}
 use Rattle.tree_rules.specs.Grammar.{Factor, ANumber, AName, InParens, Negated, Factors, OneFactor, Times, Terms, OneTerm, Added, Taken, Line, LetLine, ShowLine, BlockLine, Program, Empty, Next, spell_factor, spell_factors, spell_terms, spell_line, spell, factor_tree, factors_tree, factor_trees, terms_tree, term_trees, line_tree, trees_of, nest, IsProgram}
-use Rattle.tree_rules.proofs.TokenLemmas.{lex, lex_is, Stops, lex_name, lex_number, lex_space, lex_feed, lex_plus, lex_minus, lex_star, lex_left_paren, lex_right_paren, lex_left_brace, lex_right_brace, lex_equals, lex_semicolon, lex_let}
+use Rattle.tree_rules.proofs.TokenLemmas.{lex, lex_is, Stops, lex_name, lex_number}
 
 -- ---- How a tree's text is read
 
@@ -61,11 +61,8 @@ abbrev mutual
 
 more_terms_stop : (kids : Exprs) (rest : List ℕ) → Stops rest → Stops (more_terms_text kids ++ rest)
 more_terms_stop NoExprs rest stop = stop
-more_terms_stop (And (Num n) kids) rest stop = refl
-more_terms_stop (And (Name bytes) kids) rest stop = refl
 more_terms_stop (And (Neg e) kids) rest stop = refl
-more_terms_stop (And (Sum more) kids) rest stop = refl
-more_terms_stop (And (Prod more) kids) rest stop = refl
+more_terms_stop _ rest stop = refl
 
 more_factors_stop : (kids : Exprs) (rest : List ℕ) → Stops rest → Stops (more_factors_text kids ++ rest)
 more_factors_stop NoExprs rest stop = stop
@@ -75,50 +72,33 @@ more_factors_stop (And e kids) rest stop = refl
 parens_lex : (inner rest : List ℕ) (spelled : List Token → List Token)
     → ((more : List ℕ) → Stops more → lex 0 (inner ++ more) ≡ spelled (lex 0 more))
     → lex 0 ((codes "(" ++ inner ++ codes ")") ++ rest) ≡ LeftParen ∷ spelled (RightParen ∷ lex 0 rest)
+unfolding lex front
 parens_lex inner rest spelled is =
-    lex_left_paren ((inner ++ 41 ∷ []) ++ rest)
-    ∙ ap (λ xs. LeftParen ∷ lex 0 xs) (append_assoc inner (41 ∷ []) rest)
-    ∙ ap (λ ts. LeftParen ∷ ts) (is (41 ∷ rest) refl)
-    ∙ ap (λ ts. LeftParen ∷ spelled ts) (lex_right_paren rest)
-
--- a sign between spaces
-plus_lex : (one more rest : List ℕ) → lex 0 ((codes " + " ++ one ++ more) ++ rest) ≡ Plus ∷ lex 0 (one ++ (more ++ rest))
-plus_lex one more rest =
-    lex_space (43 ∷ 32 ∷ (one ++ more) ++ rest) ∙ lex_plus (32 ∷ (one ++ more) ++ rest) ∙ ap (λ ts. Plus ∷ ts) (lex_space ((one ++ more)
-    ++ rest))
-    ∙ ap (λ xs. Plus ∷ lex 0 xs) (append_assoc one more rest)
-
-minus_lex : (one more rest : List ℕ) → lex 0 ((codes " - " ++ one ++ more) ++ rest) ≡ Minus ∷ lex 0 (one ++ (more ++ rest))
-minus_lex one more rest =
-    lex_space (45 ∷ 32 ∷ (one ++ more) ++ rest) ∙ lex_minus (32 ∷ (one ++ more) ++ rest) ∙ ap (λ ts. Minus ∷ ts) (lex_space ((one ++
-    more) ++ rest))
-    ∙ ap (λ xs. Minus ∷ lex 0 xs) (append_assoc one more rest)
-
-star_lex : (one more rest : List ℕ) → lex 0 ((codes " * " ++ one ++ more) ++ rest) ≡ Star ∷ lex 0 (one ++ (more ++ rest))
-star_lex one more rest =
-    lex_space (42 ∷ 32 ∷ (one ++ more) ++ rest) ∙ lex_star (32 ∷ (one ++ more) ++ rest) ∙ ap (λ ts. Star ∷ ts) (lex_space ((one ++ more)
-    ++ rest))
-    ∙ ap (λ xs. Star ∷ lex 0 xs) (append_assoc one more rest)
+    ap (λ ts. LeftParen ∷ ts) (ap (lex 0) (append_assoc inner (41 ∷ []) rest) ∙ is (41 ∷ rest) refl)
 
 -- one term more, after a sum
 added_lex : (one more rest : List ℕ) (s : Terms) (t : Factors)
     → lex 0 (one ++ (more ++ rest)) ≡ spell_factors t (lex 0 (more ++ rest))
     → spell_terms (Added s t) (lex 0 (more ++ rest)) ≡ spell_terms s (lex 0 ((codes " + " ++ one ++ more) ++ rest))
-added_lex one more rest s t is = ap (spell_terms s) (ap (λ ts. Plus ∷ ts) (sym is) ∙ sym (plus_lex one more rest))
+unfolding lex front
+added_lex one more rest s t is = ap (λ ts. spell_terms s (Plus ∷ ts)) (sym is ∙ ap (lex 0) (sym (append_assoc one more rest)))
 
 taken_lex : (one more rest : List ℕ) (s : Terms) (t : Factors)
     → lex 0 (one ++ (more ++ rest)) ≡ spell_factors t (lex 0 (more ++ rest))
     → spell_terms (Taken s t) (lex 0 (more ++ rest)) ≡ spell_terms s (lex 0 ((codes " - " ++ one ++ more) ++ rest))
-taken_lex one more rest s t is = ap (spell_terms s) (ap (λ ts. Minus ∷ ts) (sym is) ∙ sym (minus_lex one more rest))
+unfolding lex front
+taken_lex one more rest s t is = ap (λ ts. spell_terms s (Minus ∷ ts)) (sym is ∙ ap (lex 0) (sym (append_assoc one more rest)))
 
 times_lex : (one more rest : List ℕ) (t : Factors) (f : Factor)
     → lex 0 (one ++ (more ++ rest)) ≡ spell_factor f (lex 0 (more ++ rest))
     → spell_factors (Times t f) (lex 0 (more ++ rest)) ≡ spell_factors t (lex 0 ((codes " * " ++ one ++ more) ++ rest))
-times_lex one more rest t f is = ap (spell_factors t) (ap (λ ts. Star ∷ ts) (sym is) ∙ sym (star_lex one more rest))
+unfolding lex front
+times_lex one more rest t f is = ap (λ ts. spell_factors t (Star ∷ ts)) (sym is ∙ ap (lex 0) (sym (append_assoc one more rest)))
 
 negated_lex : (inner rest : List ℕ) (f : Factor) → lex 0 (inner ++ rest) ≡ spell_factor f (lex 0 rest)
     → lex 0 ((codes "-" ++ inner) ++ rest) ≡ Minus ∷ spell_factor f (lex 0 rest)
-negated_lex inner rest f is = lex_minus (inner ++ rest) ∙ ap (λ ts. Minus ∷ ts) is
+unfolding lex front
+negated_lex inner rest f is = ap (λ ts. Minus ∷ ts) is
 
 mutual
   factor_lex : (e : Expr) (rest : List ℕ) → IsExpr e → Stops rest → lex 0 (expr_text e AsFactor ++ rest) ≡ spell_factor (as_factor e)
@@ -184,19 +164,16 @@ mutual
 -- an expression and the end of its statement
 ended_lex : (e : Expr) (rest : List ℕ) → IsExpr e → lex 0 ((expr_text e AsExpr ++ with_feed (codes ";")) ++ rest) ≡ spell_terms (as_expr
     e) (Semicolon ∷ lex 0 rest)
+unfolding lex front
 ended_lex e rest h =
-    ap (lex 0) (append_assoc (expr_text e AsExpr) (with_feed (codes ";")) rest)
-    ∙ expr_lex e (59 ∷ 10 ∷ rest) h refl
-    ∙ ap (spell_terms (as_expr e)) (lex_semicolon (10 ∷ rest) ∙ ap (λ ts. Semicolon ∷ ts) (lex_feed rest))
+    ap (lex 0) (append_assoc (expr_text e AsExpr) (with_feed (codes ";")) rest) ∙ expr_lex e (59 ∷ 10 ∷ rest) h refl
 
 let_lex : (name tail rest : List ℕ) → IsName name
     → lex 0 (((codes "let " ++ name ++ codes " = ") ++ tail) ++ rest) ≡ LetKey ∷ Word name ∷ Equals ∷ lex 0 (tail ++ rest)
+unfolding lex front
 let_lex name tail rest h =
-    lex_let (((name ++ codes " = ") ++ tail) ++ rest)
-    ∙ ap (λ xs. LetKey ∷ lex 0 xs) (append_assoc (name ++ codes " = ") tail rest ∙ append_assoc name (codes " = ") (tail ++ rest))
+    ap (λ xs. LetKey ∷ lex 0 xs) (append_assoc (name ++ codes " = ") tail rest ∙ append_assoc name (codes " = ") (tail ++ rest))
     ∙ ap (λ ts. LetKey ∷ ts) (lex_name name (codes " = " ++ (tail ++ rest)) h refl)
-    ∙ ap (λ ts. LetKey ∷ Word name ∷ ts) (lex_space (61 ∷ 32 ∷ tail ++ rest) ∙ lex_equals (32 ∷ tail ++ rest))
-    ∙ ap (λ ts. LetKey ∷ Word name ∷ Equals ∷ ts) (lex_space (tail ++ rest))
 
 let_text : (name e : List ℕ) → codes "let " ++ name ++ codes " = " ++ e ++ with_feed (codes ";") ≡ (codes "let " ++ name ++ codes " = ")
     ++ (e ++ with_feed (codes ";"))
@@ -204,11 +181,9 @@ let_text name e = append_assoc (codes "let " ++ name ++ codes " = ") e (with_fee
 
 braces_lex : (inner rest : List ℕ) (p : Program) → lex 0 (inner ++ (125 ∷ 10 ∷ rest)) ≡ spell p (lex 0 (125 ∷ 10 ∷ rest))
     → lex 0 ((with_feed (codes "{") ++ inner ++ with_feed (codes "}")) ++ rest) ≡ LeftBrace ∷ spell p (RightBrace ∷ lex 0 rest)
+unfolding lex front
 braces_lex inner rest p is =
-    lex_left_brace (10 ∷ (inner ++ with_feed (codes "}")) ++ rest)
-    ∙ ap (λ ts. LeftBrace ∷ ts) (lex_feed ((inner ++ with_feed (codes "}")) ++ rest))
-    ∙ ap (λ xs. LeftBrace ∷ lex 0 xs) (append_assoc inner (with_feed (codes "}")) rest)
-    ∙ ap (λ ts. LeftBrace ∷ ts) (is ∙ ap (spell p) (lex_right_brace (10 ∷ rest) ∙ ap (λ ts. RightBrace ∷ ts) (lex_feed rest)))
+    ap (λ ts. LeftBrace ∷ ts) (ap (lex 0) (append_assoc inner (with_feed (codes "}")) rest) ∙ is)
 
 mutual
   line_lex : (s : Stmt) (rest : List ℕ) → IsStmt s → lex 0 (stmt_text s ++ rest) ≡ spell_line (as_line s) (lex 0 rest)

@@ -23,24 +23,24 @@ unfoldable pub goes : ℕ → State → List Token → Option State
 goes most s [] = Some s
 goes most s (t ∷ ts) = and_then (kept most (step s t)) (λ next. goes most next ts)
 
-pub goes_on : (most : ℕ) (mode : Mode) (opens : List Open) (t : Token) (ts : List Token) (next : State)
-    → step_in mode opens t ≡ Some next → length next.opens ≤ most → goes most (state mode opens) (t ∷ ts) ≡ goes most next ts
+pub goes_step : (most : ℕ) (s : State) (t : Token) (ts : List Token) (next : State) → step s t ≡ Some next → length next.opens ≤ most
+    → goes most s (t ∷ ts) ≡ goes most next ts
 unfolding goes
-goes_on most mode opens t ts next is low =
+goes_step most s t ts next is low =
     let test : nat_le (length next.opens) most ≡ true = grind (arith, nat_tests) in
     rw is (rw test refl)
 
+goes_on : (most : ℕ) (mode : Mode) (opens : List Open) (t : Token) (ts : List Token) (next : State)
+    → step_in mode opens t ≡ Some next → length next.opens ≤ most → goes most (state mode opens) (t ∷ ts) ≡ goes most next ts
+goes_on most mode opens = goes_step most (state mode opens)
+
 pub ended_length : (opens : List Open) → length (signs_ended opens) ≤ length opens
-ended_length [] = omega arith
 ended_length (Sign ∷ opens) = omega (arith, ended_length opens)
-ended_length (Paren ∷ opens) = omega arith
-ended_length (Brace ∷ opens) = omega arith
+ended_length _ = omega arith
 
 pub ended_twice : (opens : List Open) → signs_ended (signs_ended opens) ≡ signs_ended opens
-ended_twice [] = refl
 ended_twice (Sign ∷ opens) = ended_twice opens
-ended_twice (Paren ∷ opens) = refl
-ended_twice (Brace ∷ opens) = refl
+ended_twice _ = refl
 
 mutual
   pub factor_goes : (f : Factor) (most : ℕ) (opens : List Open) (more : List Token) → factor_nest f + length opens ≤ most
@@ -94,10 +94,8 @@ mutual
 
   factor_begins : (f : Factor) (most : ℕ) (opens : List Open) (more : List Token)
       → goes most (state AtLine opens) (spell_factor f more) ≡ goes most (state AtFactor opens) (spell_factor f more)
-  factor_begins (ANumber n) most opens more = refl
   factor_begins (AName bytes) most opens more = refl
-  factor_begins (InParens s) most opens more = refl
-  factor_begins (Negated f) most opens more = refl
+  factor_begins _ most opens more = refl
 
   factors_begin : (t : Factors) (most : ℕ) (opens : List Open) (more : List Token)
       → goes most (state AtLine opens) (spell_factors t more) ≡ goes most (state AtFactor opens) (spell_factors t more)

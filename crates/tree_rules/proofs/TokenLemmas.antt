@@ -1,12 +1,14 @@
 -- The tokens of pieces of text, one after another.
-use Rattle.std.proofs.Common.{◌≡◌, ℕ, zero, suc, ◌+◌, ◌-◌, ◌*◌, ◌%◌, ◌<◌, Bool, true, false, cond, List, [], ◌∷◌, ◌++◌, length, get_or, length-append, refl, ap, ◌∙◌, arith, codes}
-use Rattle.std.specs.Prelude.{◌&&◌, ◌||◌, bytes_eq}
+use Rattle.std.proofs.Common.{◌≡◌, ℕ, zero, suc, ◌+◌, ◌-◌, ◌*◌, ◌%◌, ◌<◌, Bool, true, false, List, [], ◌∷◌, ◌++◌, length, get_or, length-append, refl, ap, ◌∙◌, arith, codes}
+use Rattle.std.specs.Prelude.{◌||◌, bytes_eq}
 use Rattle.std.specs.List.{list_all}
 use Rattle.std.proofs.lemmas.Bool.Decides.{nat_tests}
 use Rattle.call_rules.specs.Grammar.{number}
 use Rattle.call_rules.proofs.NumberLemmas.{number_by_steps}
-use Rattle.tree_rules.specs.Tokens.{Token, LetKey, Word, Number, Plus, Minus, Star, LeftParen, RightParen, LeftBrace, RightBrace, Equals, Semicolon, Other, is_space, is_digit, is_name_start, is_name_byte, run, word, value, has_needless_zero, number_token, Front, word_front, number_front, other_front, front, placed, tokens_from, without_places}
+use Rattle.tree_rules.specs.Tokens.{Token, LetKey, Word, Number, Other, is_space, is_digit, is_name_start, is_name_byte, run, word, value, has_needless_zero, number_token, Front, word_front, number_front, other_front, front, placed, tokens_from, without_places}
 use Rattle.tree_rules.specs.Trees.{IsName}
+use Rattle.std.proofs.lemmas.Bool.{and_parts, or_left, cond-true, cond-false}
+use Rattle.std.proofs.lemmas.List.Folds.{list_all-append}
 
 -- the tokens after the first bytes, this many
 unfoldable pub lex : ℕ → List ℕ → List Token
@@ -43,14 +45,10 @@ abbrev pub Stops : List ℕ → Type 0
 Stops [] = Unit {0}
 Stops (b ∷ bytes) = is_name_byte b ≡ false
 
-both_true : (a b : Bool) → (a && b) ≡ true → (a ≡ true) × (b ≡ true)
-both_true true b h = (refl, h)
-both_true false b h = cc
-
 run_stops : (passes : ℕ → Bool) (xs rest : List ℕ) → list_all passes xs ≡ true → run passes rest ≡ [] → run passes (xs ++ rest) ≡ xs
 run_stops passes [] rest all stop = stop
 run_stops passes (x ∷ xs) rest all stop =
-    let parts = both_true (passes x) (list_all passes xs) all in
+    let parts = and_parts (passes x) (list_all passes xs) all in
     rw parts.0 (ap (λ ys. x ∷ ys) (run_stops passes xs rest parts.1 stop))
 
 name_stops : (rest : List ℕ) → Stops rest → run is_name_byte rest ≡ []
@@ -68,15 +66,6 @@ digit_stops (b ∷ bytes) h =
     no_digit false b h = h
 
 -- ---- Names
-
-chosen_true : {X : Type 0} (b : Bool) (x y : X) → b ≡ true → cond b x y ≡ x
-chosen_true b x y h = rw h refl
-
-chosen_false : {X : Type 0} (b : Bool) (x y : X) → b ≡ false → cond b x y ≡ y
-chosen_false b x y h = rw h refl
-
-or_true : (a b : Bool) → a ≡ true → (a || b) ≡ true
-or_true a b h = rw h refl
 
 start_no_digit : (b : ℕ) → is_name_start b ≡ true → is_digit b ≡ false
 start_no_digit b h = grind (arith, nat_tests)
@@ -104,16 +93,16 @@ unfolding front
 name_front b bytes rest h stop =
     let start : is_name_start b ≡ true = h.0 in
     let all : list_all is_name_byte (b ∷ bytes) ≡ true
-    = rw (or_true (is_name_start b) (is_digit b) start) h.1 in
-    chosen_false (is_digit b) (number_front (run is_digit (b ∷ bytes ++ rest))) (other_front b (bytes ++ rest)) (start_no_digit b start)
-    ∙ chosen_true (is_name_start b) _ _ start
+    = rw (or_left (is_name_start b) (is_digit b) start) h.1 in
+    cond-false (is_digit b) (number_front (run is_digit (b ∷ bytes ++ rest))) (other_front b (bytes ++ rest)) (start_no_digit b start)
+    ∙ cond-true (is_name_start b) _ _ start
     ∙ ap word_front (run_stops is_name_byte (b ∷ bytes) rest all (name_stops rest stop))
 
 pub lex_name : (bytes rest : List ℕ) → IsName bytes → Stops rest → lex 0 (bytes ++ rest) ≡ Word bytes ∷ lex 0 rest
 lex_name [] rest h stop = absurd h
 lex_name (b ∷ bytes) rest h stop =
     let start : is_name_start b ≡ true = h.0 in
-    let is_word : word (b ∷ bytes) ≡ Word (b ∷ bytes) = chosen_false (bytes_eq (b ∷ bytes) (codes "let")) LetKey (Word (b ∷ bytes)) h.2 in
+    let is_word : word (b ∷ bytes) ≡ Word (b ∷ bytes) = cond-false (bytes_eq (b ∷ bytes) (codes "let")) LetKey (Word (b ∷ bytes)) h.2 in
     let one_less : suc (length bytes) - 1 ≡ length bytes = omega arith in
     lex_front b (bytes ++ rest) (word_front (b ∷ bytes)) (start_no_space b start) (name_front b bytes rest h stop)
     ∙ ap (λ t. t ∷ lex (suc (length bytes) - 1) (bytes ++ rest)) is_word
@@ -135,10 +124,7 @@ value_one_more m d [] = refl
 value_one_more m d (e ∷ ds) = value_one_more (m * 10 + (e - 48)) d ds
 
 all_one_more : (ds : List ℕ) (d : ℕ) → list_all is_digit ds ≡ true → is_digit d ≡ true → list_all is_digit (ds ++ d ∷ []) ≡ true
-all_one_more [] d h one = rw one refl
-all_one_more (e ∷ ds) d h one =
-    let parts = both_true (is_digit e) (list_all is_digit ds) h in
-    rw parts.0 (all_one_more ds d parts.1 one)
+all_one_more ds d h one = rw (list_all-append is_digit ds (d ∷ []), h, one) refl
 
 longer_first : (ds es : List ℕ) → 48 < get_or ds 0 0 → 48 < get_or (ds ++ es) 0 0
 longer_first [] es h = absurd (omega arith)
@@ -179,12 +165,12 @@ digits_lex : (n : ℕ) (ds rest : List ℕ) → AreDigits n ds → Stops rest �
 unfolding front
 digits_lex n [] rest h stop = absurd (omega (arith, h.some))
 digits_lex n (d ∷ ds) rest h stop =
-    let parts = both_true (is_digit d) (list_all is_digit ds) h.digits in
+    let parts = and_parts (is_digit d) (list_all is_digit ds) h.digits in
     let front_is : front d (ds ++ rest) ≡ number_front (d ∷ ds)
-    = chosen_true (is_digit d) (number_front (run is_digit (d ∷ ds ++ rest))) (other_front d (ds ++ rest)) parts.0
+    = cond-true (is_digit d) (number_front (run is_digit (d ∷ ds ++ rest))) (other_front d (ds ++ rest)) parts.0
     ∙ ap number_front (run_stops is_digit (d ∷ ds) rest h.digits (digit_stops rest stop)) in
     let token_is : number_token (d ∷ ds) ≡ Number n
-    = chosen_false (has_needless_zero (d ∷ ds)) Other (Number (value 0 (d ∷ ds))) h.needless ∙ ap Number h.value_is in
+    = cond-false (has_needless_zero (d ∷ ds)) Other (Number (value 0 (d ∷ ds))) h.needless ∙ ap Number h.value_is in
     let one_less : suc (length ds) - 1 ≡ length ds = omega arith in
     lex_front d (ds ++ rest) (number_front (d ∷ ds)) (digit_no_space d parts.0) front_is
     ∙ ap (λ t. t ∷ lex (suc (length ds) - 1) (ds ++ rest)) token_is
@@ -193,53 +179,3 @@ digits_lex n (d ∷ ds) rest h stop =
 
 pub lex_number : (n : ℕ) (rest : List ℕ) → Stops rest → lex 0 (number n ++ rest) ≡ Number n ∷ lex 0 rest
 lex_number n rest stop = digits_lex n (number n) rest (number_digits n) stop
-
--- ---- Spaces and signs
-
-pub lex_space : (rest : List ℕ) → lex 0 (32 ∷ rest) ≡ lex 0 rest
-unfolding lex
-lex_space rest = refl
-
-pub lex_feed : (rest : List ℕ) → lex 0 (10 ∷ rest) ≡ lex 0 rest
-unfolding lex
-lex_feed rest = refl
-
-pub lex_plus : (rest : List ℕ) → lex 0 (43 ∷ rest) ≡ Plus ∷ lex 0 rest
-unfolding lex front
-lex_plus rest = refl
-
-pub lex_minus : (rest : List ℕ) → lex 0 (45 ∷ rest) ≡ Minus ∷ lex 0 rest
-unfolding lex front
-lex_minus rest = refl
-
-pub lex_star : (rest : List ℕ) → lex 0 (42 ∷ rest) ≡ Star ∷ lex 0 rest
-unfolding lex front
-lex_star rest = refl
-
-pub lex_left_paren : (rest : List ℕ) → lex 0 (40 ∷ rest) ≡ LeftParen ∷ lex 0 rest
-unfolding lex front
-lex_left_paren rest = refl
-
-pub lex_right_paren : (rest : List ℕ) → lex 0 (41 ∷ rest) ≡ RightParen ∷ lex 0 rest
-unfolding lex front
-lex_right_paren rest = refl
-
-pub lex_left_brace : (rest : List ℕ) → lex 0 (123 ∷ rest) ≡ LeftBrace ∷ lex 0 rest
-unfolding lex front
-lex_left_brace rest = refl
-
-pub lex_right_brace : (rest : List ℕ) → lex 0 (125 ∷ rest) ≡ RightBrace ∷ lex 0 rest
-unfolding lex front
-lex_right_brace rest = refl
-
-pub lex_equals : (rest : List ℕ) → lex 0 (61 ∷ rest) ≡ Equals ∷ lex 0 rest
-unfolding lex front
-lex_equals rest = refl
-
-pub lex_semicolon : (rest : List ℕ) → lex 0 (59 ∷ rest) ≡ Semicolon ∷ lex 0 rest
-unfolding lex front
-lex_semicolon rest = refl
-
-pub lex_let : (rest : List ℕ) → lex 0 (108 ∷ 101 ∷ 116 ∷ 32 ∷ rest) ≡ LetKey ∷ lex 0 rest
-unfolding lex front
-lex_let rest = refl

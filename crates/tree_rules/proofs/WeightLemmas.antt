@@ -1,7 +1,7 @@
 -- The definitions and blocks of a text weigh at most its bytes.
 use Rattle.std.proofs.Common.{◌≡◌, ℕ, zero, suc, ◌+◌, ◌-◌, ◌≤◌, ◌||◌, Bool, true, false, cond, List, [], ◌∷◌, length, refl, sym, subst, arith, Ok}
 use Rattle.std.specs.List.{AllByRecursion}
-use Rattle.tree_rules.specs.Tokens.{Token, LetKey, Word, Number, Plus, Minus, Star, LeftParen, RightParen, LeftBrace, RightBrace, Equals, Semicolon, Other, is_space, is_digit, is_name_start, is_name_byte, run, look_up, signs, has_needless_zero, word_front, number_front, sign_front, front, placed, tokens_from, without_places}
+use Rattle.tree_rules.specs.Tokens.{Token, LetKey, Word, Plus, Minus, Star, RightParen, RightBrace, Semicolon, Other, is_space, is_digit, is_name_start, is_name_byte, run, look_up, signs, has_needless_zero, word_front, number_front, sign_front, front, placed, tokens_from, without_places}
 use Rattle.tree_rules.specs.Trees.{Stmt, Stmts, NoStmts, Then, with_stmt}
 use Rattle.tree_rules.specs.Grammar.{Factor, ANumber, AName, InParens, Negated, Factors, OneFactor, Times, Terms, OneTerm, Added, Taken, Line, LetLine, ShowLine, BlockLine, Program, Empty, Next, spell_factor, spell_factors, spell_terms, spell_line, spell, line_tree, trees_of}
 use Rattle.tree_rules.specs.Refusals.{TreeOf}
@@ -9,19 +9,8 @@ use Rattle.tree_rules.specs.Weights.{weight, weights}
 
 -- the most that a token adds
 abbrev letters : Token → ℕ
-letters LetKey = 1
 letters (Word bytes) = length bytes
-letters (Number n) = 1
-letters Plus = 1
-letters Minus = 1
-letters Star = 1
-letters LeftParen = 1
-letters RightParen = 1
-letters LeftBrace = 1
-letters RightBrace = 1
-letters Equals = 1
-letters Semicolon = 1
-letters Other = 1
+letters _ = 1
 
 abbrev all_letters : List Token → ℕ
 all_letters [] = 0
