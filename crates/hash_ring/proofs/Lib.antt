@@ -11,7 +11,6 @@ pub mod Agree
 pub mod Once
 pub mod Under
 pub mod PolicyLemmas
-pub mod Left
 pub mod Equal
 pub mod Homes
 pub mod Passing

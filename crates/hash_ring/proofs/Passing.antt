@@ -3,7 +3,7 @@ use Rattle.std.proofs.Common.{◌≡◌, ℕ, ◌+◌, ◌*◌, ◌/◌, ◌%◌
 use Rattle.std.proofs.Common.{arith, Some, None, Option}
 use Rattle.std.proofs.Math.Nat.{mod-lt}
 use Rattle.std.specs.Prelude.{slice_get}
-use Rattle.hash_ring.specs.Searches.{far_mark, IsPassed, IsSpotFor}
+use Rattle.hash_ring.specs.Searches.{IsPassed, IsSpotFor}
 use Rattle.hash_ring.specs.Slots.{spot, items, Lacks, IsAway, IsBehind, IsOrdered}
 use Rattle.hash_ring.specs.Marks.{home_of, mark_of}
 use Rattle.hash_ring.proofs.Find.{AreTaken, Passed, IsReached, Stops, taken-less, passed-lacks, place-for, away-start}
@@ -128,13 +128,6 @@ module _ {X : Type 0} (hash : X → ℕ) (n : ℕ) (some : 0 < n) (slots : List 
           let far : a.0
           ≡ d = away-start (λ x. home_of n (hash x)) n homes (home_of n h) slots d x a.0 (mod-lt h some) less a.1 (ap (home_of n) e) in
           are.marks (spot n (home_of n h) d) a.0 x a.1 ∙ (ap (λ k. mark_of k a.0) e ∙ ap (mark_of h) far)
-
-    -- a mark that gives the distance stops a walk of 14 slots or more
-    pub marked-far-stops : (h d : ℕ) → d < n → 14 ≤ d → mark (spot n (home_of n h) d) < far_mark
-        → Stops (λ x. home_of n (hash x)) n (home_of n h) slots d
-    marked-far-stops h d less far m = record {
-      nearer = λ y e a. omega (arith, far, near-by (hash y) e (subst (λ k. k < far_mark) (are.marks (spot n (home_of n h) d) e y a) m));
-    }
 
     -- a walk meets a free slot in less than a round
     pub marked-less : (h d : ℕ) → length (items slots) < n → IsPassed (λ x. home_of n (hash x)) n slots (home_of n h) d → d < n

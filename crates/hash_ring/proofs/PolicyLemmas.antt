@@ -5,30 +5,20 @@ use Rattle.std.proofs.lemmas.Bool.Decides.{nat_tests}
 use Rattle.std.specs.Int.{IsPowerOfTwo}
 use Rattle.hash_ring.specs.Policy.{most_pairs, slot_size, table_align, unit, limit, spare, credit, IsSlotsFor, next_slots}
 use Rattle.hash_ring.specs.Marks.{IsRing}
+use Rattle.std.proofs.lemmas.Bool.{cases_lt}
 
 -- ---- Powers of two
 
--- a number is below another or not
-less_or_not : (a b : ℕ) → (a < b) ⊎ (b ≤ a)
-less_or_not zero zero = inr (omega arith)
-less_or_not zero (suc b) = inl (omega arith)
-less_or_not (suc a) zero = inr (omega arith)
-less_or_not (suc a) (suc b) = elim (less_or_not a b) [ inl h ↦ inl (omega arith) | inr h ↦ inr (omega arith) ]
-
 -- A power of two below another is at most its half.
 pub power-below : (n k : ℕ) → IsPowerOfTwo n → n < 2 ^ suc k → n ≤ 2 ^ k
-power-below n k is less = elim (less_or_not k is.0) [
-  | inl above ↦ (
-      let more : 2 ^ suc k ≤ 2 ^ is.0 = pow-le-pow_right (omega arith) above in
-      absurd (omega (arith, is.1)))
-  | inr within ↦ (
-      let most : 2 ^ is.0 ≤ 2 ^ k = pow-le-pow_right (omega arith) within in
-      omega (arith, is.1))
+power-below n k is less = elim (cases_lt k is.0) [
+  | inl above ↦ let more : 2 ^ suc k ≤ 2 ^ is.0 = pow-le-pow_right (omega arith) above in absurd (omega (arith, is.1))
+  | inr within ↦ let most : 2 ^ is.0 ≤ 2 ^ k = pow-le-pow_right (omega arith) within in omega (arith, is.1)
 ]
 
 -- A power of two from eight on is a multiple of eight.
 pub power-eights : (n : ℕ) → IsPowerOfTwo n → 8 ≤ n → (m : ℕ) × (n ≡ 8 * m) × (1 ≤ m)
-power-eights n is least = elim (less_or_not is.0 3) [
+power-eights n is least = elim (cases_lt is.0 3) [
   | inl small ↦ (
       let few : 2 ^ is.0 ≤ 2 ^ 2 = pow-le-pow_right (omega arith) (let le : is.0 ≤ 2 = omega arith in le) in
       absurd (omega (arith, is.1)))
@@ -48,8 +38,7 @@ slots-room pairs slots few is = omega (arith, is.1)
 
 -- so is the next table.
 next-zero : (slots : ℕ) → slots ≡ 0 → next_slots slots ≡ 16
-next-zero zero h = refl
-next-zero (suc n) h = absurd (omega arith)
+next-zero slots h = rw h refl
 
 next-some : (slots : ℕ) → 0 < slots → next_slots slots ≡ 2 * slots
 next-some slots h = grind (arith, nat_tests)
@@ -78,19 +67,14 @@ unit-covers k v ka va = omega arith
 
 -- the size of a table is at most 2 ^ 60
 pub table-small : (k v slots : ℕ) → k ≤ 2 ^ 24 → v ≤ 2 ^ 24 → slots ≤ 2 ^ 33 → slots * slot_size k v ≤ 2 ^ 60
-table-small k v slots small small' few =
-    let a : slots * slot_size k v ≤ slots * 2 ^ 26 = mul-le-mul_left slots (let s : slot_size k v ≤ 2 ^ 26 = omega arith in s) in
-    omega (arith, a)
+table-small k v slots small small' few = grind arith
 
 pub table-fits : (k v slots : ℕ) → k ≤ 2 ^ 24 → v ≤ 2 ^ 24 → slots ≤ 2 ^ 33 → slots * slot_size k v ≤ 2 ^ 62
 table-fits k v slots small small' few = omega (arith, table-small k v slots small small' few)
 
 -- a block has at least the bytes of the pairs
 pub table-holds : (k v slots len : ℕ) → len ≤ limit slots → (k + v) * len ≤ slots * slot_size k v
-table-holds k v slots len within =
-    let a : (k + v) * len ≤ (k + v) * slots = mul-le-mul_left (k + v) (let few : len ≤ slots = omega arith in few) in
-    let b : slots * (k + v) ≤ slots * slot_size k v = mul-le-mul_left slots (let more : k + v ≤ slot_size k v = omega arith in more) in
-    omega (arith, a, b, mul_comm (k + v) slots)
+table-holds k v slots len within = grind arith
 
 module _ (size pad u : ℕ) (covers : 8 * size + pad ≤ u) where
   -- this many times eight slots, and the padding of a block
@@ -102,7 +86,7 @@ module _ (size pad u : ℕ) (covers : 8 * size + pad ≤ u) where
 
   -- the table for n pairs
   pub capacity-bytes : (pairs slots : ℕ) → 0 < pairs → IsSlotsFor pairs slots → slots * size + pad ≤ u * pairs
-  capacity-bytes pairs slots some is = elim (less_or_not 4 pairs) [
+  capacity-bytes pairs slots some is = elim (cases_lt 4 pairs) [
     | inl many ↦ (
         let a : slots * size ≤ 4 * pairs * size = mul-le-mul_right size (let le : slots ≤ 4 * pairs = omega (arith, is.2) in le) in
         let b : 2 * (4 * pairs * size) ≡ 8 * pairs * size = omega arith in
@@ -152,14 +136,11 @@ credit-rises u slots len =
 
 -- fewer pairs have no more saved up
 pub credit-falls : (u slots a b : ℕ) → a ≤ b → credit u slots a ≤ credit u slots b
-credit-falls u slots a b h = mul-le-mul_left u (fewer a b (slots / 4 + 1) h)
-  where
-    fewer : (a b c : ℕ) → a ≤ b → a - c ≤ b - c
-    fewer a b c h = omega arith
+credit-falls u slots a b h = grind arith
 
 -- an empty table has nothing saved up
 pub credit-none : (u slots : ℕ) → credit u slots 0 ≡ 0
-credit-none u slots = ap (λ n. u * n) (let none : 0 - (slots / 4 + 1) ≡ 0 = omega arith in none) ∙ omega arith
+credit-none u slots = grind arith
 
 -- a table for n pairs, with them in it, has at most half as much saved up
 pub full-credit : (u pairs slots : ℕ) → IsSlotsFor pairs slots → 2 * credit u slots pairs ≤ u * pairs

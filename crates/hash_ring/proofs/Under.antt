@@ -10,7 +10,7 @@ use Rattle.std.specs.List.{find}
 use Rattle.hash_ring.specs.Finite.{AreOnce, first_of, with_pair, without, key_or}
 use Rattle.hash_ring.specs.Slots.{items, Has, IsOnce, Lacks, Settled, Closed, Moved}
 use Rattle.hash_ring.proofs.Once.{is_once}
-use Rattle.hash_ring.proofs.Places.{same_item, not_free, one-item, put-cases, get_set_same, get_set_other}
+use Rattle.hash_ring.proofs.Places.{same_item, not_free, one-item, put-cases, get_set_same, get_set_other, once-put}
 
 -- ---- The first that a test finds
 
@@ -148,16 +148,8 @@ module _ {K V : Type 0} (content : K → List ℕ) where
   module _ (old : List (Option (K × V))) (at : ℕ) (l : K) (u v : V) (once : IsOnce (λ p. content p.0) old)
       (there : slice_get old at ≡ Some (Some (l, u))) where
     pub once-value : IsOnce (λ p. content p.0) (set old at (Some (l, v)))
-    once-value i j x y s t e = elim (put-cases old at i (Some (l, u)) (l, v) x there s) [
-      | inl a ↦ elim (put-cases old at j (Some (l, u)) (l, v) y there t) [
-        | inl b ↦ a.0 ∙ sym b.0
-        | inr b ↦ a.0 ∙ once at j (l, u) y there b.1 (ap (λ p. content p.0) (sym a.1) ∙ e)
-      ]
-      | inr a ↦ elim (put-cases old at j (Some (l, u)) (l, v) y there t) [
-        | inl b ↦ once i at x (l, u) a.1 there (e ∙ ap (λ p. content p.0) b.1) ∙ sym b.0
-        | inr b ↦ once i j x y a.1 b.1 e
-      ]
-    ]
+    once-value =
+        once-put (λ p. content p.0) old at (Some (l, u)) (l, v) there once (λ j y s e. once j at y (l, u) s there e)
 
     pub under-value : (k : K)
         → first_of content (items (set old at (Some (l, v)))) ≡ with_pair (first_of content (items old)) (content l) k v
