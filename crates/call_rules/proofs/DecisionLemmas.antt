@@ -5,7 +5,7 @@ use Rattle.std.specs.List.{AllByRecursion}
 use Rattle.std.proofs.lemmas.Bool.{cases_lt, cases_eq}
 use Rattle.call_rules.specs.Grammar.{call_line, IsByte, Fits, IsCall, AreCalls, IsFirstRefused, CallsOf, lines_of}
 use Rattle.call_rules.specs.declared.calls.Call.{Call}
-use Rattle.call_rules.specs.declared.calls.Call.TheVariants.{Alloc, Grow, Shrink, Dealloc, Write, Read, Mark, Back, Reset, Used, Allocated}
+use Rattle.call_rules.specs.declared.calls.Call.TheVariants.{Alloc, Grow, Shrink, Dealloc, Write, Read, Mark, Back}
 use Rattle.call_rules.proofs.ReadingLemmas.{read_call, read_call_back}
 
 abbrev pub Decided : Type 0 → Type 0
@@ -46,9 +46,7 @@ fits (Write name at bytes) = turned (λ h. (h.0, h.1.0, h.1.1)) (λ h. (h.0, (h.
 fits (Read name) = below name (2 ^ 32)
 fits (Mark name) = below name (2 ^ 32)
 fits (Back name) = below name (2 ^ 32)
-fits Reset = inl tt
-fits Used = inl tt
-fits Allocated = inl tt
+fits _ = inl tt
 
 pub same : (xs ys : List ℕ) → Decided (xs ≡ ys)
 same [] [] = inl refl

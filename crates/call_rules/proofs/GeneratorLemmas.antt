@@ -8,12 +8,8 @@ use Rattle.call_rules.specs.Generator.{call_at, call_of_kind, is_last_of_turn, a
 use Rattle.call_rules.specs.declared.calls.Call.{Call}
 
 small_power : (n : ℕ) → n < 5 → 2 ^ n < 2 ^ 64
-small_power zero h = omega arith
-small_power (suc zero) h = omega arith
-small_power (suc (suc zero)) h = omega arith
-small_power (suc (suc (suc zero))) h = omega arith
-small_power (suc (suc (suc (suc zero)))) h = omega arith
 small_power (suc (suc (suc (suc (suc n))))) h = absurd (omega arith)
+small_power _ h = omega arith
 
 either_fits : (test : Bool) (a b : Call) → Fits a → Fits b → Fits (if test then a else b)
 either_fits true a b p q = p

@@ -1,3 +1,4 @@
+mod CallSteps
 pub mod DoublingRunLemmas
 pub mod NumberLemmas
 pub mod LineLemmas

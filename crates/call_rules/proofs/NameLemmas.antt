@@ -83,10 +83,6 @@ module _ {X : Type 0} where
       agree _ _ k (set_own values others k None none within ∙ sym (get-removed (named_with 0 values others) k))
       (λ q differs. set_other values others k None q none differs ∙ sym (get-remove_other (named_with 0 values others) k q differs))
 
-  pub none_set : (values : List (Option X)) (others : FinMap nat_cmp X) (k : ℕ) (o : Option X) → HasNoneBelow (length values) others
-      → HasNoneBelow (length (slice_set values k o)) others
-  none_set values others k o none = λ q within. none q (omega (arith, length-set values k o))
-
   -- a name past the list
   pub insert_other : (values : List (Option X)) (others : FinMap nat_cmp X) (k : ℕ) (p : X) → length values ≤ k
       → named_with 0 values (insert others k p) ≡ insert (named_with 0 values others) k p

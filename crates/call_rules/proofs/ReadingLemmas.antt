@@ -47,9 +47,7 @@ read_call_back (Write name at bytes) h =
 read_call_back (Read name) h = ap (λ f. f.0) (read_field_back Read name (10 ∷ []) refl)
 read_call_back (Mark name) h = ap (λ f. f.0) (read_field_back Mark name (10 ∷ []) refl)
 read_call_back (Back name) h = ap (λ f. f.0) (read_field_back Back name (10 ∷ []) refl)
-read_call_back Reset h = refl
-read_call_back Used h = refl
-read_call_back Allocated h = refl
+read_call_back _ h = refl
 
 -- the calls of lines that are all empty or calls
 abbrev read_calls : List (List ℕ) → List Call

@@ -1,41 +1,35 @@
 -- The bytes in the replies of a run are below 256, if those in the calls are.
 use Rattle.std.proofs.Common.{◌≡◌, ℕ, zero, suc, ◌-◌, ◌+◌, Bool, true, false, cond, Option, Some, None, List, [], ◌∷◌, ◌++◌, length, take, drop, refl, subst, Ok, sym, ap, ◌∙◌}
-use Rattle.std.specs.Prelude.{replicate, not, nat_lt, ◌==◌, if◌then◌else◌}
+use Rattle.std.specs.Prelude.{replicate, nat_lt}
 use Rattle.std.specs.List.{AllByRecursion}
 use Rattle.std.specs.Option.{is_some, option_map}
 use Rattle.std.specs.Ordering.{nat_cmp, eq_by_cmp}
 use Rattle.std.specs.Cmp.{nat_cmp_total}
 use Rattle.std.specs.FinMap as finite
-use Rattle.std.specs.FinMap.{get-empty, get-insert, get-remove, get-retain_keys, nat_cmp-IsAntisymmetric}
-use Rattle.std.proofs.lemmas.Option.{none-some, same_Some, cond_some, option_and_then_some}
+use Rattle.std.specs.FinMap.{get-empty, get-insert, get-retain_keys, nat_cmp-IsAntisymmetric}
+use Rattle.std.proofs.lemmas.Option.{none-some, same_Some, option_and_then_some}
 use Rattle.arena_rules.specs.Rounding.{is_layout}
 use Rattle.arena_rules.specs.State.{State, used_bytes, allocated_bytes}
-use Rattle.arena_rules.specs.Moves.{Outcome, alloc, dealloc, reset}
-use Rattle.call_rules.specs.Machine.{Machine, Next, Contents, step, run, run_from, reply_first, settles, answers, at_found, fresh, lets_go, mark_named, at_mark, goes_back, is_left}
+use Rattle.arena_rules.specs.Moves.{alloc, dealloc, reset}
+use Rattle.call_rules.specs.Machine.{Machine, Next, Contents, step, run, run_from, reply_first, settles, answers, at_found, fresh, lets_go, mark_named, goes_back, is_left}
 use Rattle.arena_rules.specs.Lists.{splice}
-use Rattle.arena_rules.specs.Back.{Point, mark_of, back}
+use Rattle.arena_rules.specs.Back.{mark_of, back}
 use Rattle.call_rules.specs.Grammar.{IsByte, Fits, AreCalls, CallsOf, lines_of}
 use Rattle.call_rules.specs.Replies.{HasBytes, text_of}
 use Rattle.arena_rules.specs.declared.place.Place.{Place}
 use Rattle.call_rules.specs.declared.calls.Call.{Call}
 use Rattle.call_rules.specs.declared.calls.Call.TheVariants.{Alloc, Grow, Shrink, Dealloc, Write, Read, Mark, Back, Reset, Used, Allocated}
 use Rattle.call_rules.specs.declared.calls.Reply.{Reply}
-use Rattle.call_rules.specs.declared.calls.Reply.TheVariants.{Done, Bytes, Number, NoSuchName, NameTaken, BadLayout, OutOfRange}
+use Rattle.call_rules.specs.declared.calls.Reply.TheVariants.{Done, Bytes, Number, NoSuchName, NameTaken, OutOfRange}
 use Rattle.call_rules.proofs.TextLemmas.{same_replies}
+use Rattle.call_rules.proofs.CallSteps.{answered, unless, layout_given, found, marked}
+use Rattle.arena_rules.proofs.ListLemmas.{all_append, all_take}
+use Rattle.call_rules.proofs.HeldLemmas.{less_removed}
 
 -- ---- Lists of bytes
 
 abbrev AreBytes : List ℕ → Type 0
 AreBytes bytes = AllByRecursion IsByte bytes
-
-joined : (xs ys : List ℕ) → AreBytes xs → AreBytes ys → AreBytes (xs ++ ys)
-joined [] ys p q = q
-joined (x ∷ xs) ys p q = (p.0, joined xs ys p.1 q)
-
-taken : (n : ℕ) (xs : List ℕ) → AreBytes xs → AreBytes (take n xs)
-taken zero xs p = tt
-taken (suc n) [] p = tt
-taken (suc n) (x ∷ xs) p = (p.0, taken n xs p.1)
 
 dropped : (n : ℕ) (xs : List ℕ) → AreBytes xs → AreBytes (drop n xs)
 dropped zero xs p = p
@@ -47,7 +41,8 @@ repeated zero fill p = tt
 repeated (suc n) fill p = (p, repeated n fill p)
 
 spliced : (old new : List ℕ) (at : ℕ) → AreBytes old → AreBytes new → AreBytes (splice old at new)
-spliced old new at p q = joined (take at old ++ new) (drop (at + length new) old) (joined (take at old) new (taken at old p) q)
+spliced old new at p q =
+    all_append IsByte (take at old ++ new) (drop (at + length new) old) (all_append IsByte (take at old) new (all_take IsByte at old p) q)
     (dropped (at + length new) old p)
 
 -- ---- The bytes of the names
@@ -69,12 +64,7 @@ holds_more contents name bytes held are other bs found =
     go false same = held other bs same
 
 holds_less : (contents : Contents) (name : ℕ) → HoldsBytes contents → HoldsBytes (finite.remove contents name)
-holds_less contents name held other bs found =
-    go (eq_by_cmp nat_cmp other name) (rw (get-remove nat_cmp_total contents name other) at found)
-  where
-    go : (b : Bool) → cond b None (finite.get contents other) ≡ Some bs → AreBytes bs
-    go true same = absurd (none-some bs same)
-    go false same = held other bs same
+holds_less contents name held other bs found = held other bs (less_removed contents name other bs found)
 
 holds_some : (contents : Contents) (test : ℕ → Bool) → HoldsBytes contents → HoldsBytes (finite.retain_keys contents test)
 holds_some contents test held other bs found =
@@ -90,102 +80,59 @@ holds_some contents test held other bs found =
 abbrev GivesBytes : Next → Type 0
 GivesBytes next = HasBytes next.0 × HoldsBytes next.1.bytes
 
--- a call that makes no request
-answered : (k : ℕ) (reply : Reply) (m : Machine) (next : Next) → HasBytes reply → HoldsBytes m.bytes → answers k reply m ≡ Some next
-    → GivesBytes next
-answered k reply m next has held at = subst GivesBytes (cond_some (k == 0) (reply, m) next at).1 (has, held)
-
 -- a call that places a block
-settled : (k name size align : ℕ) (bytes : List ℕ) (m : Machine) (o : Option Outcome) (next : Next) → AreBytes bytes → HoldsBytes m.bytes
-    → option_map (λ (outcome : Outcome). settles m k name size align bytes outcome.state outcome.answer) o ≡ Some next → GivesBytes next
-settled k name size align bytes m None next are held at = absurd (none-some next at)
-settled k name size align bytes m (Some outcome) next are held at =
-    subst GivesBytes (same_Some (settles m k name size align bytes outcome.state outcome.answer) next at) (by_answer outcome.answer)
-  where
-    by_answer : (answer : Option ℕ) → GivesBytes (settles m k name size align bytes outcome.state answer)
-    by_answer (Some p) = (tt, holds_more m.bytes name bytes held are)
-    by_answer None = (tt, held)
+settled : (k name size align : ℕ) (bytes : List ℕ) (m : Machine) → HoldsBytes m.bytes → AreBytes bytes → (state : State) (p : Option ℕ)
+    → GivesBytes (settles m k name size align bytes state p)
+settled k name size align bytes m held are state (Some p) = (tt, holds_more m.bytes name bytes held are)
+settled k name size align bytes m held are state None = (tt, held)
 
 -- a call on the block of a name
-found : (k name : ℕ) (m : Machine) (place : Option Place) (go : Place → List ℕ → Option Next) (next : Next) → HoldsBytes m.bytes
+named : (k name : ℕ) (m : Machine) (next : Next) (go : Place → List ℕ → Option Next) → HoldsBytes m.bytes
     → ((p : Place) (bs : List ℕ) → AreBytes bs → go p bs ≡ Some next → GivesBytes next)
-    → at_found place (finite.get m.bytes name) (answers k NoSuchName m) go ≡ Some next → GivesBytes next
-found k name m place go next held each at = by place (finite.get m.bytes name) refl at
-  where
-    by : (place : Option Place) (bytes : Option (List ℕ)) → finite.get m.bytes name ≡ bytes
-        → at_found place bytes (answers k NoSuchName m) go ≡ Some next → GivesBytes next
-    by (Some p) (Some bs) is at = each p bs (held name bs is) at
-    by (Some p) None is at = absurd (none-some next at)
-    by None bytes is at = answered k NoSuchName m next tt held at
-
--- an allocation, by whether the name is taken and whether the layout is valid
-alloc_called : (k name size align fill : ℕ) (m : Machine) (next : Next) → IsByte fill → HoldsBytes m.bytes → (taken fine : Bool)
-    → (if taken then answers k NameTaken m else (if not fine then answers k BadLayout m
-    else option_map (λ (o : Outcome). settles m k name size align (replicate size fill) o.state o.answer) (alloc m.state size align k)))
-    ≡ Some next
-    → GivesBytes next
-alloc_called k name size align fill m next byte held true fine at = answered k NameTaken m next tt held at
-alloc_called k name size align fill m next byte held false false at = answered k BadLayout m next tt held at
-alloc_called k name size align fill m next byte held false true at =
-    settled k name size align (replicate size fill) m (alloc m.state size align k) next (repeated size fill byte) held at
-
--- a grow or a shrink, by whether the layout is valid and whether the size is wrong for the call
-resize_called : (k name size align : ℕ) (m : Machine) (o : Option Outcome) (bytes : List ℕ) (next : Next) → HoldsBytes m.bytes
-    → AreBytes bytes → (fine wrong : Bool)
-    → (if not fine then answers k BadLayout m else (if wrong then answers k OutOfRange m
-    else option_map (λ (o : Outcome). settles m k name size align bytes o.state o.answer) o)) ≡ Some next
-    → GivesBytes next
-resize_called k name size align m o bytes next held are false wrong at = answered k BadLayout m next tt held at
-resize_called k name size align m o bytes next held are true true at = answered k OutOfRange m next tt held at
-resize_called k name size align m o bytes next held are true false at = settled k name size align bytes m o next are held at
-
--- a write, by whether it is too long
-write_called : (k : ℕ) (m : Machine) (next : Next) (bytes : Contents) (longer : Bool) → HoldsBytes m.bytes → HoldsBytes bytes
-    → (if longer then answers k OutOfRange m else answers k Done (record m { bytes = bytes })) ≡ Some next → GivesBytes next
-write_called k m next bytes true held new is = answered k OutOfRange m next tt held is
-write_called k m next bytes false held new is = answered k Done (record m { bytes = bytes }) next tt new is
-
--- a call on marks
-mark_called : (k name : ℕ) (m : Machine) (next : Next) (taken : Bool) → HoldsBytes m.bytes
-    → (if taken then answers k NameTaken m else answers k Done (record m { marks = (name, mark_of m.state) ∷ m.marks })) ≡ Some next
-    → GivesBytes next
-mark_called k name m next true held at = answered k NameTaken m next tt held at
-mark_called k name m next false held at = answered k Done (record m { marks = (name, mark_of m.state) ∷ m.marks }) next tt held at
-
-back_called : (k name : ℕ) (m : Machine) (next : Next) (o : Option Point) → HoldsBytes m.bytes
-    → at_mark o (answers k NoSuchName m) (λ mark. answers k Done (goes_back m mark name)) ≡ Some next → GivesBytes next
-back_called k name m next None held at = answered k NoSuchName m next tt held at
-back_called k name m next (Some mark) held at =
-    answered k Done (goes_back m mark name) next tt (holds_some m.bytes (is_left (back mark m.state) m.held) held) at
+    → at_found (finite.get m.held name) (finite.get m.bytes name) (answers k NoSuchName m) go ≡ Some next → GivesBytes next
+named k name m next go held each =
+    found GivesBytes k m next (finite.get m.held name) (finite.get m.bytes name) go (tt, held) (λ p bs is has. each p bs (held name bs has))
 
 -- Each call whose numbers fit returns a reply with bytes below 256, and leaves such bytes.
 step_bytes : (call : Call) (k : ℕ) (m : Machine) (next : Next) → Fits call → HoldsBytes m.bytes → step call k m ≡ Some next
     → GivesBytes next
 unfolding step
 step_bytes (Alloc name size align fill) k m next fits held at =
-    alloc_called k name size align fill m next fits.3 held (finite.contains_key m.held name) (is_layout size align) at
+    unless GivesBytes k m next (finite.contains_key m.held name) NameTaken _ (tt, held)
+    (λ free. layout_given GivesBytes k m next name size align (replicate size fill) (alloc m.state size align k) (tt, held) (tt, held)
+    (is_layout size align) false
+    (λ fine right outcome step. settled k name size align (replicate size fill) m held (repeated size fill fits.3) outcome.state)) at
 step_bytes (Grow name size align fill) k m next fits held at =
-    found k name m (finite.get m.held name) _ next held
-    (λ p bs are. resize_called k name size align m _ (bs ++ replicate (size - p.size) fill) next held
-    (joined bs (replicate (size - p.size) fill) are (repeated (size - p.size) fill fits.3)) (is_layout size align) (nat_lt size p.size)) at
+    named k name m next _ held
+    (λ p bs are. layout_given GivesBytes k m next name size align (bs ++ replicate (size - p.size) fill) _ (tt, held) (tt, held)
+    (is_layout size align) (nat_lt size p.size)
+    (λ fine right outcome step. settled k name size align (bs ++ replicate (size - p.size) fill) m held
+    (all_append IsByte bs (replicate (size - p.size) fill) are (repeated (size - p.size) fill fits.3)) outcome.state)) at
 step_bytes (Shrink name size align) k m next fits held at =
-    found k name m (finite.get m.held name) _ next held
-    (λ p bs are. resize_called k name size align m _ (take size bs) next held (taken size bs are) (is_layout size align)
-    (nat_lt p.size size)) at
+    named k name m next _ held
+    (λ p bs are. layout_given GivesBytes k m next name size align (take size bs) _ (tt, held) (tt, held) (is_layout size align)
+    (nat_lt p.size size)
+    (λ fine right outcome step. settled k name size align (take size bs) m held (all_take IsByte size bs are) outcome.state)) at
 step_bytes (Dealloc name) k m next fits held at =
-    found k name m (finite.get m.held name) _ next held
-    (λ p bs are. answered k Done (lets_go m (dealloc m.state p.addr p.size) name) next tt (holds_less m.bytes name held)) at
+    named k name m next _ held
+    (λ p bs are. answered GivesBytes k m next Done (lets_go m (dealloc m.state p.addr p.size) name) (tt, holds_less m.bytes name held)) at
 step_bytes (Write name at new) k m next fits held is =
-    found k name m (finite.get m.held name) _ next held
-    (λ p bs are. write_called k m next (finite.insert m.bytes name (splice bs at new)) (nat_lt p.size (at + length new)) held
-    (holds_more m.bytes name (splice bs at new) held (spliced bs new at are fits.2))) is
+    named k name m next _ held
+    (λ p bs are. unless GivesBytes k m next (nat_lt p.size (at + length new)) OutOfRange _ (tt, held)
+    (λ inside. answered GivesBytes k m next Done (record m { bytes = finite.insert m.bytes name (splice bs at new) })
+    (tt, holds_more m.bytes name (splice bs at new) held (spliced bs new at are fits.2)))) is
 step_bytes (Read name) k m next fits held at =
-    found k name m (finite.get m.held name) _ next held (λ p bs are. answered k (Bytes bs) m next are held) at
-step_bytes (Mark name) k m next fits held at = mark_called k name m next (is_some (mark_named m.marks name)) held at
-step_bytes (Back name) k m next fits held at = back_called k name m next (mark_named m.marks name) held at
-step_bytes Reset k m next fits held at = answered k Done (fresh (reset m.state)) next tt holds_none at
-step_bytes Used k m next fits held at = answered k (Number (used_bytes m.state)) m next tt held at
-step_bytes Allocated k m next fits held at = answered k (Number (allocated_bytes m.state)) m next tt held at
+    named k name m next _ held (λ p bs are. answered GivesBytes k m next (Bytes bs) m (are, held)) at
+step_bytes (Mark name) k m next fits held at =
+    unless GivesBytes k m next (is_some (mark_named m.marks name)) NameTaken _ (tt, held)
+    (λ free. answered GivesBytes k m next Done (record m { marks = (name, mark_of m.state) ∷ m.marks }) (tt, held)) at
+step_bytes (Back name) k m next fits held at =
+    marked GivesBytes k m next (mark_named m.marks name) _ (tt, held)
+    (λ mark. answered GivesBytes k m next Done (goes_back m mark name)
+    (tt, holds_some m.bytes (is_left (back mark m.state) m.held) held)) at
+step_bytes Reset k m next fits held at = answered GivesBytes k m next Done (fresh (reset m.state)) (tt, holds_none) at
+step_bytes Used k m next fits held at = answered GivesBytes k m next (Number (used_bytes m.state)) m (tt, held) at
+step_bytes Allocated k m next fits held at = answered GivesBytes k m next (Number (allocated_bytes m.state)) m (tt, held) at
 
 -- ---- A run
 

@@ -36,14 +36,10 @@ read_line (Placed addr refused) rest h =
     ap (λ text. read_refused (read_field placed text)) regrouped
     ∙ ap read_refused (read_field_back placed addr (codes " refused" ++ behind) refl)
     ∙ read_field_back (placed addr) refused (10 ∷ rest) refl
-read_line Done rest h = refl
 read_line (Bytes bytes) rest h = ap (λ f. (Bytes f.0, f.1)) (read_hex_back bytes rest h)
 read_line (Number n) rest h = read_field_back Number n (10 ∷ rest) refl
 read_line (AllocErr refused) rest h = read_field_back AllocErr refused (10 ∷ rest) refl
-read_line NoSuchName rest h = refl
-read_line NameTaken rest h = refl
-read_line BadLayout rest h = refl
-read_line OutOfRange rest h = refl
+read_line _ rest h = refl
 
 read_reply_back : (r : Reply) (rest : List ℕ) → HasBytes r → read_reply (with_feed (reply_line r) ++ rest) ≡ (r, 10 ∷ rest)
 read_reply_back r rest h = ap read_reply (append_assoc (reply_line r) (10 ∷ []) rest) ∙ read_line r rest h
