@@ -58,42 +58,27 @@ module _ (of : ℕ → Option Object) where
   by_list : (name : ℕ) (go : List ℕ → Effect) (o : Object) → IsOld of name o
       → ((items : List ℕ) → IsOld of name (AList items) → Serves of (go items)) → Serves of (a_list o go)
   by_list name go (AList items) is f = f items is
-  by_list name go (AText bytes) is f = tt
-  by_list name go (ASet capacity bits) is f = tt
-  by_list name go (AMap pairs) is f = tt
-  by_list name go (AValue value) is f = tt
+  by_list name go _ is f = tt
 
   by_text : (name : ℕ) (go : List ℕ → Effect) (o : Object) → IsOld of name o
       → ((bytes : List ℕ) → IsOld of name (AText bytes) → Serves of (go bytes)) → Serves of (a_text o go)
-  by_text name go (AList items) is f = tt
   by_text name go (AText bytes) is f = f bytes is
-  by_text name go (ASet capacity bits) is f = tt
-  by_text name go (AMap pairs) is f = tt
-  by_text name go (AValue value) is f = tt
+  by_text name go _ is f = tt
 
   by_set : (name : ℕ) (go : ℕ → Bits → Effect) (o : Object) → IsOld of name o
       → ((capacity : ℕ) (bits : Bits) → IsOld of name (ASet capacity bits) → Serves of (go capacity bits)) → Serves of (a_set o go)
-  by_set name go (AList items) is f = tt
-  by_set name go (AText bytes) is f = tt
   by_set name go (ASet capacity bits) is f = f capacity bits is
-  by_set name go (AMap pairs) is f = tt
-  by_set name go (AValue value) is f = tt
+  by_set name go _ is f = tt
 
   by_map : (name : ℕ) (go : Entries ℕ → Effect) (o : Object) → IsOld of name o
       → ((pairs : Entries ℕ) → IsOld of name (AMap pairs) → Serves of (go pairs)) → Serves of (a_map o go)
-  by_map name go (AList items) is f = tt
-  by_map name go (AText bytes) is f = tt
-  by_map name go (ASet capacity bits) is f = tt
   by_map name go (AMap pairs) is f = f pairs is
-  by_map name go (AValue value) is f = tt
+  by_map name go _ is f = tt
 
   by_value : (name : ℕ) (go : ℕ → Effect) (o : Object) → IsOld of name o
       → ((value : ℕ) → IsOld of name (AValue value) → Serves of (go value)) → Serves of (a_value o go)
-  by_value name go (AList items) is f = tt
-  by_value name go (AText bytes) is f = tt
-  by_value name go (ASet capacity bits) is f = tt
-  by_value name go (AMap pairs) is f = tt
   by_value name go (AValue value) is f = f value is
+  by_value name go _ is f = tt
 
   by_unless : (test : Bool) (reply : ScriptReply) (e : Effect) → HasBytes reply → (test ≡ false → Serves of e)
       → Serves of (unless test reply e)
@@ -157,18 +142,13 @@ all_printed words set =
     ]
 
 shown_bytes : (o : Object) → IsObject o → HasBytes (shown o)
-shown_bytes (AList items) is = tt
 shown_bytes (AText bytes) is = all_bytes bytes is.0
 shown_bytes (ASet capacity bits) is = all_printed (words_for capacity) (has bits)
-shown_bytes (AMap pairs) is = tt
-shown_bytes (AValue value) is = tt
+shown_bytes _ is = tt
 
 length_bytes : (o : Object) → HasBytes (length_reply o)
-length_bytes (AList items) = tt
-length_bytes (AText bytes) = tt
 length_bytes (ASet capacity bits) = tt
-length_bytes (AMap pairs) = tt
-length_bytes (AValue value) = tt
+length_bytes _ = tt
 
 none_of_two : (a b : Bool) → (a || b) ≡ false → (a ≡ false) × (b ≡ false)
 none_of_two true b h = absurd (true≢false h)

@@ -34,44 +34,36 @@ module _ {X : Type 0} where
 -- ---- Bits are a set, and what is done to them is done to it
 
 is_some_if : (b : Bool) (o : Option (Unit {0})) → is_some (if b then Some tt else o) ≡ (is_some o || b)
-is_some_if true None = refl
-is_some_if true (Some u) = refl
-is_some_if false None = refl
 is_some_if false (Some u) = refl
+is_some_if true (Some u) = refl
+is_some_if _ _ = refl
 
 pub has_bind : (bits : Bits) (b q : ℕ) → has (bind bits b tt) q ≡ with_bit (has bits) b q
 has_bind bits b q = ap is_some (get_bind bits b tt q) ∙ is_some_if (q == b) (get bits q)
 
 none_if : (b : Bool) (o : Option (Unit {0})) → is_some (if b then None else o) ≡ (is_some o && not b)
-none_if true None = refl
 none_if true (Some u) = refl
-none_if false None = refl
 none_if false (Some u) = refl
+none_if _ _ = refl
 
 pub has_unbind : (bits : Bits) (b q : ℕ) → has (unbind bits b) q ≡ without_bit (has bits) b q
 has_unbind bits b q = ap is_some (get_unbind bits b q) ∙ none_if (q == b) (get bits q)
 
 -- one step of a union: a bit is added by this one of the other bits, if this one is below the end
 one_more : (a l m s : Bool) → (s ≡ true → l ≡ true) → ((a || s) || l && m) ≡ (a || l && (m || s))
-one_more true l m s h = refl
 one_more false true true true h = refl
-one_more false true true false h = refl
 one_more false true false true h = refl
-one_more false true false false h = refl
 one_more false false m true h = absurd (true≢false (sym (h refl)))
-one_more false false m false h = refl
+one_more _ _ _ _ h = refl
 
 none_more : (a l m s : Bool) → (s ≡ true → l ≡ false) → (a || l && m) ≡ (a || l && (m || s))
-none_more true l m s h = refl
 none_more false true m true h = absurd (true≢false (h refl))
 none_more false true true false h = refl
-none_more false true false false h = refl
-none_more false false m s h = refl
+none_more _ _ _ _ h = refl
 
 none_at_all : (a l : Bool) → a ≡ (a || l && false)
-none_at_all true l = refl
-none_at_all false true = refl
 none_at_all false false = refl
+none_at_all _ _ = refl
 
 has_first : (q : ℕ) (e : ℕ × Unit {0}) (more : Bits) → has (e ∷ more) q ≡ (has more q || q == e.0)
 has_first q e more = ap (λ b. is_some (cond b (Some e.1) (get more q))) (unsigned_tied q e.0) ∙ is_some_if (q == e.0) (get more q)

@@ -29,24 +29,15 @@ kept (b ∷ line) lines some = refl
 -- a line among those of a list
 middle : (xs ys : List (List ℕ)) (line : List ℕ) (ls : List Line) → AllByRecursion IsGood ls → xs ++ line ∷ ys ≡ texts ls
     → (l : Line) × (IsGood l × (line ≡ line_text l))
-middle [] ys line [] h e = absurd (none e)
-  where
-    none : line ∷ ys ≡ [] → ⊥
-    none e = cc
+middle [] ys line [] h e = absurd (cc)
 middle [] ys line (l ∷ ls) h e = let first : line ≡ line_text l = cc in (l, (h.0, first))
-middle (x ∷ xs) ys line [] h e = absurd (none e)
-  where
-    none : x ∷ xs ++ line ∷ ys ≡ [] → ⊥
-    none e = cc
+middle (x ∷ xs) ys line [] h e = absurd (cc)
 middle (x ∷ xs) ys line (l ∷ ls) h e = let more : xs ++ line ∷ ys ≡ texts ls = cc in middle xs ys line ls h.1 more
 
 -- the first line of scripts
 first_line : (scripts : List (List Command)) (line : List ℕ) (lines : List (List ℕ)) → line ∷ lines ≡ flat_map script_lines scripts
     → line ≡ codes "script"
-first_line [] line lines e = absurd (none e)
-  where
-    none : line ∷ lines ≡ [] → ⊥
-    none e = cc
+first_line [] line lines e = absurd (cc)
 first_line (script ∷ scripts) line lines e = cc
 
 none_refused : (scripts others : List (List Command)) (before after : List (List ℕ)) (line : List ℕ)

@@ -106,26 +106,22 @@ unfolding run_from
 goes_on objects [] b = refl
 goes_on objects (c ∷ a) b = ap (answer_first (step c objects)) (goes_on (step c objects).objects a b)
 
-first_replies_from : (objects : Objects) (i : ℕ) (script : List Command)
-    → (run_from objects (take i script)).replies ≡ take i (run_from objects script).replies
+first_from : (objects : Objects) (i : ℕ) (script : List Command)
+    → ((run_from objects (take i script)).replies ≡ take i (run_from objects script).replies)
+    × ((run_from objects (take i script)).costs ≡ take i (run_from objects script).costs)
 unfolding run_from
-first_replies_from objects zero script = refl
-first_replies_from objects (suc i) [] = refl
-first_replies_from objects (suc i) (c ∷ script) =
-    ap (λ rs. (step c objects).reply ∷ rs) (first_replies_from (step c objects).objects i script)
+first_from objects zero script = (refl, refl)
+first_from objects (suc i) [] = (refl, refl)
+first_from objects (suc i) (c ∷ script) =
+    let answer = step c objects in
+    let rest = first_from answer.objects i script in
+    (ap (λ rs. answer.reply ∷ rs) rest.0, ap (λ ns. answer.cost ∷ ns) rest.1)
 
 pub first_replies : (i : ℕ) (script : List Command) → (run (take i script)).replies ≡ take i (run script).replies
-first_replies i script = first_replies_from [] i script
-
-first_costs_from : (objects : Objects) (i : ℕ) (script : List Command)
-    → (run_from objects (take i script)).costs ≡ take i (run_from objects script).costs
-unfolding run_from
-first_costs_from objects zero script = refl
-first_costs_from objects (suc i) [] = refl
-first_costs_from objects (suc i) (c ∷ script) = ap (λ ns. (step c objects).cost ∷ ns) (first_costs_from (step c objects).objects i script)
+first_replies i script = (first_from [] i script).0
 
 pub first_cost : (i : ℕ) (script : List Command) → cost_of (take i script) ≡ cost_of_first i script
-first_cost i script = ap sum (first_costs_from [] i script)
+first_cost i script = ap sum (first_from [] i script).1
 
 sum_take : (i j : ℕ) (ns : List ℕ) → i ≤ j → sum (take i ns) ≤ sum (take j ns)
 sum_take zero j ns h = omega arith

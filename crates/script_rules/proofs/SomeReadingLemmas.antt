@@ -137,10 +137,7 @@ read ((b ∷ line) ∷ lines) = elim (is_line (b ∷ line)) [
 -- The first line that isn't empty is refused where it doesn't begin a script.
 first_refused : (lines more : List (List ℕ)) (first : List ℕ) → first ≢ codes "script" → filter is_some_line lines ≡ first ∷ more
     → (n : ℕ) × IsFirstRefused lines n
-first_refused [] more first other e = absurd (none e)
-  where
-    none : [] ≡ first ∷ more → ⊥
-    none e = cc
+first_refused [] more first other e = absurd (cc)
 first_refused ([] ∷ lines) more first other e =
     let r = first_refused lines more first other e in
     let place = r.1.place in (
@@ -172,10 +169,9 @@ first_refused ((b ∷ line) ∷ lines) more first other e =
     )
 
 no_begin : (c : Command) → Fits c → command_line c ≢ codes "script"
-no_begin c fits e = absurd (none (sym (read_line_back (Does c) fits) ∙ ap (λ t. read_line (t ++ 10 ∷ [])) e ∙ read_line_back Begins tt))
-  where
-    none : Does c ≡ Begins → ⊥
-    none e = cc
+no_begin c fits e =
+    let same : Does c ≡ Begins = sym (read_line_back (Does c) fits) ∙ ap (λ t. read_line (t ++ 10 ∷ [])) e ∙ read_line_back Begins tt in
+    absurd (cc)
 
 -- lines that begin with no command are scripts
 are_scripts : (lines : List (List ℕ)) (ls : List Line) → (gather ls).0 ≡ [] → AreLines lines ls → AreScripts lines (gather ls).1

@@ -1,8 +1,7 @@
 -- A text is that of one list of outcomes.
-use Rattle.std.proofs.Common.{◌≡◌, ◌≢◌, ℕ, zero, suc, ◌+◌, ◌≤◌, Bool, true, false, List, [], ◌∷◌, ◌++◌, length, length-append, map, drop, refl, sym, ap, ◌∙◌, arith, append_assoc, codes}
+use Rattle.std.proofs.Common.{◌≡◌, ℕ, zero, suc, ◌+◌, ◌≤◌, Bool, true, false, List, [], ◌∷◌, ◌++◌, length, length-append, map, drop, refl, sym, ap, ◌∙◌, arith, append_assoc, codes}
 use Rattle.std.specs.Prelude.{◌==◌, if◌then◌else◌}
 use Rattle.std.specs.List.{AllByRecursion, flat_map}
-use Rattle.std.proofs.lemmas.Bool.Decides.{nat_tests}
 use Rattle.std.proofs.lemmas.List.{map-append}
 use Rattle.arena_rules.proofs.ListLemmas.{all_append}
 use Rattle.call_rules.specs.Grammar.{number, fields, with_feed}
@@ -14,6 +13,7 @@ use Rattle.script_rules.specs.declared.commands.Ended.{Ended}
 use Rattle.script_rules.specs.declared.commands.Ended.TheVariants as ended
 use Rattle.script_rules.specs.declared.commands.ScriptReply.{ScriptReply}
 use Rattle.script_rules.specs.declared.commands.ScriptReply.TheVariants.{Done, Number, Nothing, Truth, Bytes, Numbers, Printed, NoSuchName, NameTaken, WrongKind, OutOfRange, NotAscii, CapacityOverflow}
+use Rattle.std.proofs.lemmas.Bool.{ne_eqb}
 
 -- ---- Numbers after spaces, and printed forms, read back
 
@@ -69,11 +69,7 @@ read_to_feed_back : (bytes rest : List ℕ) → AllByRecursion IsPrintedByte byt
 unfolding read_to_feed
 read_to_feed_back [] rest h = refl
 read_to_feed_back (b ∷ bytes) rest h =
-    let no_feed : (b == 10) ≡ false = differ b 10 h.0.0 in
-    rw (no_feed, read_to_feed_back bytes rest h.1)
-  where
-    differ : (x y : ℕ) → x ≢ y → (x == y) ≡ false
-    differ x y n = grind (arith, nat_tests)
+    rw (ne_eqb b 10 h.0.0, read_to_feed_back bytes rest h.1)
 
 read_printed : List ℕ → List ℕ × List ℕ
 read_printed text = let f = read_to_feed text in if begins_with 45 f.0 then ([], f.1) else f
@@ -83,12 +79,8 @@ read_printed_back : (bytes rest : List ℕ) → AllByRecursion IsPrintedByte byt
 unfolding read_printed read_to_feed begins_with
 read_printed_back [] rest h = refl
 read_printed_back (b ∷ bytes) rest h =
-    let no_dash : (45 == b) ≡ false = differ b h.0.1 in
     ap (λ f. if begins_with 45 f.0 then ([], f.1) else f) (read_to_feed_back (b ∷ bytes) rest h)
-    ∙ ap (λ (t : Bool). if t then ([], 10 ∷ rest) else (b ∷ bytes, 10 ∷ rest)) no_dash
-  where
-    differ : (x : ℕ) → x ≢ 45 → (45 == x) ≡ false
-    differ x n = grind (arith, nat_tests)
+    ∙ ap (λ (t : Bool). if t then ([], 10 ∷ rest) else (b ∷ bytes, 10 ∷ rest)) (ne_eqb 45 b (λ e. h.0.1 (sym e)))
 
 -- ---- Lines
 
@@ -138,26 +130,16 @@ read_line = read_by (Says OutOfRange, [])
     ∷ [])
 
 read_reply_line : (r : ScriptReply) (rest : List ℕ) → HasBytes r → read_line (reply_line r ++ 10 ∷ rest) ≡ (Says r, 10 ∷ rest)
-read_reply_line Done rest h = refl
 read_reply_line (Number n) rest h = ap (said Number) (read_field_back (λ m. m) n (10 ∷ rest) refl)
-read_reply_line Nothing rest h = refl
-read_reply_line (Truth true) rest h = refl
-read_reply_line (Truth false) rest h = refl
 read_reply_line (Bytes bytes) rest h = ap (said Bytes) (read_hex_back bytes rest h)
 read_reply_line (Numbers ns) rest h = ap (said Numbers) (read_numbers_back ns rest)
 read_reply_line (Printed bytes) rest h = ap (said Printed) (read_printed_back bytes rest h)
-read_reply_line NoSuchName rest h = refl
-read_reply_line NameTaken rest h = refl
-read_reply_line WrongKind rest h = refl
-read_reply_line OutOfRange rest h = refl
-read_reply_line NotAscii rest h = refl
-read_reply_line CapacityOverflow rest h = refl
+read_reply_line (Truth true) rest h = refl
+read_reply_line _ rest h = refl
 
 read_ended_line : (e : Ended) (rest : List ℕ) → read_line (ended_line e ++ 10 ∷ rest) ≡ (Ends e, 10 ∷ rest)
-read_ended_line ended.Done rest = refl
-read_ended_line ended.Full rest = refl
-read_ended_line ended.Refused rest = refl
 read_ended_line ended.OutOfMemory rest = refl
+read_ended_line _ rest = refl
 
 read_line_back : (l : Line) (rest : List ℕ) → IsGood l → read_line (line_of l ++ 10 ∷ rest) ≡ (l, 10 ∷ rest)
 read_line_back (Begins i) rest h = read_field_back Begins i (10 ∷ rest) refl
