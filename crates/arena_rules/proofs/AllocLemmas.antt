@@ -142,7 +142,8 @@ is_granted state size align k e p valid growing power none at is =
     }
 
 -- what holds after an allocation in a valid state holds at a place in the newest chunk, at one in a new chunk, and without one
-pub alloc_valid_each : (P : Outcome → Type 0) (state : State) (size align k : ℕ) (outcome : Outcome) → IsValid state → IsTrue (is_power align)
+pub alloc_valid_each : (P : Outcome → Type 0) (state : State) (size align k : ℕ) (outcome : Outcome) → IsValid state
+    → IsTrue (is_power align)
     → ((p : ℕ) → place state size align ≡ Some p
     → IsPlace (start_of state.chunks) (cursor_of state.chunks) size align state.min_align p → P (placed state p))
     → ((e : ℕ × ℕ) (p : ℕ) → place state size align ≡ None → IsValid (with_chunk e state)

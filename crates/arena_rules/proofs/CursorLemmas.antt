@@ -1,5 +1,5 @@
 -- The cursor of the newest chunk, and where it may move.
-use Rattle.std.proofs.Common.{◌≡◌, ℕ, ◌+◌, ◌-◌, ◌%◌, ◌^◌, ◌<◌, ◌≤◌, refl, arith, List, [], ◌∷◌, false, Bool, true}
+use Rattle.std.proofs.Common.{◌≡◌, ℕ, ◌+◌, ◌-◌, ◌%◌, ◌^◌, ◌<◌, ◌≤◌, arith, List, [], ◌∷◌, false, Bool, true}
 use Rattle.arena_rules.specs.State.{State, Chunk, AreChunks, FitsKind, IsValid, start_of, cursor_of, top_of, floor_of, with_cursor, with_newest_cursor}
 use Rattle.arena_rules.specs.Moves.{set_cursor}
 use Rattle.arena_rules.proofs.RoundingLemmas.{min_align_multiple}
@@ -9,46 +9,25 @@ floor_positive [] = omega arith
 floor_positive (newest ∷ older) = omega arith
 
 pub start_positive : (state : State) → IsValid state → 0 < start_of state.chunks
-start_positive state valid = go state.chunks valid.chunks
-  where
-    go : (chunks : List Chunk) → AreChunks state.min_align chunks → 0 < start_of chunks
-    go [] fine = omega arith
-    go (newest ∷ older) fine = omega (arith, fine.1, floor_positive older)
+start_positive state valid = grind (arith, floor_positive)
 
 pub cursor_within : (state : State) → IsValid state → (start_of state.chunks ≤ cursor_of state.chunks)
     × (cursor_of state.chunks ≤ top_of state.chunks)
-cursor_within state valid = go state.chunks valid.chunks
-  where
-    go : (chunks : List Chunk) → AreChunks state.min_align chunks → (start_of chunks ≤ cursor_of chunks)
-        × (cursor_of chunks ≤ top_of chunks)
-    go [] fine = (omega arith, omega arith)
-    go (newest ∷ older) fine = (fine.0.cursor_low, fine.0.cursor_high)
+cursor_within state valid = grind arith
 
 pub cursor_aligned : (state : State) → IsValid state → cursor_of state.chunks % state.min_align ≡ 0
-cursor_aligned state valid = go state.chunks valid.chunks
-  where
-    go : (chunks : List Chunk) → AreChunks state.min_align chunks → cursor_of chunks % state.min_align ≡ 0
-    go [] fine = min_align_multiple 16 state.min_align valid.min_align refl
-    go (newest ∷ older) fine = fine.0.cursor_aligned
+cursor_aligned state valid = grind (arith, min_align_multiple)
 
 -- data ends are multiples of 16
 pub top_units : (state : State) → IsValid state → top_of state.chunks % 16 ≡ 0
-top_units state valid = go state.chunks valid.chunks
-  where
-    go : (chunks : List Chunk) → AreChunks state.min_align chunks → top_of chunks % 16 ≡ 0
-    go [] fine = refl
-    go (newest ∷ older) fine = omega (arith, fine.0.base_aligned, fine.0.size_aligned)
+top_units state valid = grind arith
 
 pub top_aligned : (state : State) → IsValid state → top_of state.chunks % state.min_align ≡ 0
 top_aligned state valid = min_align_multiple (top_of state.chunks) state.min_align valid.min_align (top_units state valid)
 
 -- the newest chunk ends at least 48 addresses before the last one
 pub top_le : (state : State) → IsValid state → top_of state.chunks + 48 ≤ 2 ^ 64 - 1
-top_le state valid = go state.chunks valid.top
-  where
-    go : (chunks : List Chunk) → floor_of chunks ≤ 2 ^ 64 - 1 → top_of chunks + 48 ≤ 2 ^ 64 - 1
-    go [] top = omega arith
-    go (newest ∷ older) top = top
+top_le state valid = grind arith
 
 chunks_set : (m p : ℕ) → (chunks : List Chunk) → AreChunks m chunks → start_of chunks ≤ p → p ≤ top_of chunks → p % m ≡ 0
     → AreChunks m (with_newest_cursor p chunks)
@@ -72,8 +51,7 @@ kind_set false p (newest ∷ (next ∷ older)) fits = fits
 kind_set _ p _ fits = fits
 
 floor_set : (p : ℕ) → (chunks : List Chunk) → floor_of (with_newest_cursor p chunks) ≡ floor_of chunks
-floor_set p [] = refl
-floor_set p (newest ∷ older) = refl
+floor_set p chunks = grind arith
 
 -- A cursor may be any multiple of the least alignment in the newest chunk.
 pub valid_set : (state : State) (p : ℕ) → IsValid state → start_of state.chunks ≤ p → p ≤ top_of state.chunks → p % state.min_align ≡ 0
@@ -99,17 +77,14 @@ valid_moved state p valid low high aligned = valid_set state p valid low (omega 
 
 -- another cursor moves no base and no data end
 pub start_set : (p : ℕ) → (chunks : List Chunk) → start_of (with_newest_cursor p chunks) ≡ start_of chunks
-start_set p [] = refl
-start_set p (newest ∷ older) = refl
+start_set p chunks = grind arith
 
 pub top_set : (p : ℕ) → (chunks : List Chunk) → top_of (with_newest_cursor p chunks) ≡ top_of chunks
-top_set p [] = refl
-top_set p (newest ∷ older) = refl
+top_set p chunks = grind arith
 
 -- a cursor that moved down is at its new address; without a chunk it doesn't move
 pub cursor_set : (p : ℕ) → (chunks : List Chunk) → start_of chunks ≤ p → p ≤ cursor_of chunks → cursor_of (with_newest_cursor p chunks) ≡ p
-cursor_set p [] low high = omega (arith, low, high)
-cursor_set p (newest ∷ older) low high = refl
+cursor_set p chunks low high = grind arith
 
 pub top_floor : (chunks : List Chunk) → top_of chunks ≤ floor_of chunks
 top_floor [] = omega arith

@@ -180,5 +180,5 @@ shrink_doubling z state p size align new_size new_align k outcome =
 -- a block that is given back
 pub dealloc_doubling : (z p size : ℕ) (state : State) → IsDoubling z state.chunks → IsDoubling z (dealloc state p size).chunks
 dealloc_doubling z p size state double =
-    dealloc_by (λ (s : State). IsDoubling z s.chunks) state p size (λ last. doubling_moved z (up (p + size) state.min_align) state.chunks double)
-    double
+    dealloc_by (λ (s : State). IsDoubling z s.chunks) state p size
+    (λ last. doubling_moved z (up (p + size) state.min_align) state.chunks double) double

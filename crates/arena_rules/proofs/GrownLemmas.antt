@@ -43,7 +43,8 @@ chunk_grown state e near large = go state.chunks near
 
 -- a block that is given back
 pub dealloc_grown : (state : State) (p size : ℕ) → HasGrown state (dealloc state p size)
-dealloc_grown state p size = dealloc_by (HasGrown state) state p size (λ last. cursor_grown (up (p + size) state.min_align) state) (grown_not state)
+dealloc_grown state p size =
+    dealloc_by (HasGrown state) state p size (λ last. cursor_grown (up (p + size) state.min_align) state) (grown_not state)
 
 -- An allocation moves a cursor, perhaps in one more chunk, or fails.
 pub alloc_grown : (state : State) (size align k : ℕ) (outcome : Outcome) → IsValid state → IsTrue (is_power align) → align ≤ 16
@@ -70,6 +71,6 @@ pub record IsFailed (state : State) (size align k : ℕ) : Type 0 where
 pub alloc_failed : (state new : State) (size align k : ℕ) → IsValid state → IsTrue (is_power align)
     → alloc state size align k ≡ Some (record { answer = None; state = new }) → IsFailed state size align k
 alloc_failed state new size align k valid power step =
-    alloc_each (λ (o : Outcome). o.answer ≡ None → IsFailed state size align k) state size align k
-    (record { answer = None; state = new }) (λ p found is. absurd (none-some p (sym is))) (λ e p none found there is. absurd (none-some p (sym is)))
+    alloc_each (λ (o : Outcome). o.answer ≡ None → IsFailed state size align k) state size align k (record { answer = None; state = new })
+    (λ p found is. absurd (none-some p (sym is))) (λ e p none found there is. absurd (none-some p (sym is)))
     (λ none all is. record { none = none; all = all }) step refl

@@ -12,6 +12,7 @@ use Rattle.arena_rules.proofs.BackLemmas.{is_mark, all_kept}
 use Rattle.arena_rules.proofs.AllocLemmas.{unasked_each, alloc_each}
 use Rattle.arena_rules.proofs.ReturnLemmas.{dealloc_by}
 use Rattle.arena_rules.proofs.UsedLemmas.{within}
+use Rattle.arena_rules.proofs.CursorLemmas.{start_set, top_set}
 
 -- ---- The oldest chunks as newer ones come and go
 
@@ -22,14 +23,6 @@ StayBelow n old new = (first_chunks n new ≡ first_chunks n old)
 
 length_first : (n : ℕ) (chunks : List Chunk) → n ≤ length chunks → length (first_chunks n chunks) ≡ n
 length_first n chunks within = omega (arith, length-drop (length chunks - n) chunks)
-
-start_moved : (c : ℕ) (chunks : List Chunk) → start_of (with_newest_cursor c chunks) ≡ start_of chunks
-start_moved c [] = refl
-start_moved c (newest ∷ older) = refl
-
-top_moved : (c : ℕ) (chunks : List Chunk) → top_of (with_newest_cursor c chunks) ≡ top_of chunks
-top_moved c [] = refl
-top_moved c (newest ∷ older) = refl
 
 record IsBelow (n : ℕ) (old new : List Chunk) : Type 0 where
   within : n ≤ length new
@@ -67,8 +60,8 @@ is_below n old new within stay = elim stay [
       let all : first_chunks n new ≡ new = subst (λ (m : ℕ). first_chunks m new ≡ new) moved.1 (all_kept new) in
       record {
         within = omega (arith, moved.1);
-        start = ap start_of (all ∙ moved.2) ∙ start_moved moved.0 (first_chunks n old);
-        top = ap top_of (all ∙ moved.2) ∙ top_moved moved.0 (first_chunks n old);
+        start = ap start_of (all ∙ moved.2) ∙ start_set moved.0 (first_chunks n old);
+        top = ap top_of (all ∙ moved.2) ∙ top_set moved.0 (first_chunks n old);
         used = λ c addr k used marked.
             subst (λ (l : List Chunk). IsTrue (is_range_used (raised c l) addr k)) (sym (all ∙ moved.2))
             (used_moved c moved.0 addr k (first_chunks n old) (subst (λ (l : List Chunk). IsTrue (is_range_used l addr k)) moved.2 used)
@@ -164,14 +157,17 @@ next_alloc state size align k outcome =
 
 next_resize : (way : Resizing) (state : State) (p size align k : ℕ) (outcome : Outcome) → resize way state p size align k ≡ Some outcome
     → IsNext state outcome.state
-next_resize Stays state p size align k outcome = unasked_each (λ (o : Outcome). IsNext state o.state) k (stays state p) outcome (next_still state)
+next_resize Stays state p size align k outcome =
+    unasked_each (λ (o : Outcome). IsNext state o.state) k (stays state p) outcome (next_still state)
 next_resize (Moves q) state p size align k outcome =
     unasked_each (λ (o : Outcome). IsNext state o.state) k (placed state q) outcome (next_placed q state)
 next_resize Anew state p size align k outcome = next_alloc state size align k outcome
-next_resize Refused state p size align k outcome = unasked_each (λ (o : Outcome). IsNext state o.state) k (fails state) outcome (next_still state)
+next_resize Refused state p size align k outcome =
+    unasked_each (λ (o : Outcome). IsNext state o.state) k (fails state) outcome (next_still state)
 
 next_dealloc : (state : State) (p size : ℕ) → IsNext state (dealloc state p size)
-next_dealloc state p size = dealloc_by (IsNext state) state p size (λ last. next_placed (up (p + size) state.min_align) state) (next_still state)
+next_dealloc state p size =
+    dealloc_by (IsNext state) state p size (λ last. next_placed (up (p + size) state.min_align) state) (next_still state)
 
 pub still_keeps : (mark : Point) (state : State) → IsTrue (accepts mark state) → KeepsMark mark state state
 still_keeps mark state holds = next_keeps mark state state holds (next_still state)

@@ -30,7 +30,8 @@ alloc_at_cursor state size align k outcome =
 moved_at_cursor : (way : Resizing) (state : State) (p size align k : ℕ) (outcome : Outcome) → way ≢ Stays
     → resize way state p size align k ≡ Some outcome → IsAtCursor outcome
 moved_at_cursor Stays state p size align k outcome other step = absurd (other refl)
-moved_at_cursor (Moves q) state p size align k outcome other step = unasked_each IsAtCursor k (placed state q) outcome (at_placed q state) step
+moved_at_cursor (Moves q) state p size align k outcome other step =
+    unasked_each IsAtCursor k (placed state q) outcome (at_placed q state) step
 moved_at_cursor Anew state p size align k outcome other step = alloc_at_cursor state size align k outcome step
 moved_at_cursor Refused state p size align k outcome other step = unasked_each IsAtCursor k (fails state) outcome (at_none state) step
 

@@ -1,6 +1,6 @@
 -- States with nothing in use.
-use Rattle.std.proofs.Common.{◌≡◌, ℕ, ◌+◌, ◌<◌, refl, arith, List, [], ◌∷◌, IsTrue, Bool, true, false, sum, map}
-use Rattle.arena_rules.specs.State.{State, Chunk, is_min_align, AreChunks, FitsKind, IsValid, floor_of, is_range_used, newest_size, used_length, used_bytes, allocated_bytes}
+use Rattle.std.proofs.Common.{◌≡◌, ℕ, ◌+◌, ◌<◌, refl, arith, List, [], ◌∷◌, IsTrue, Bool, true, false}
+use Rattle.arena_rules.specs.State.{State, Chunk, is_min_align, AreChunks, FitsKind, IsValid, floor_of, is_range_used, newest_size, used_bytes, allocated_bytes}
 use Rattle.std.proofs.lemmas.Bool.Decides.{nat_tests}
 use Rattle.arena_rules.specs.Moves.{reset, emptied}
 use Rattle.arena_rules.proofs.RoundingLemmas.{min_align_multiple}
@@ -43,31 +43,15 @@ reset_valid state valid = record {
 
 -- Nothing is in use afterwards.
 pub reset_unused : (state : State) (addr n : ℕ) → 0 < n → is_range_used (reset state).chunks addr n ≡ false
-reset_unused state addr n some = go state.chunks
-  where
-    go : (chunks : List Chunk) → is_range_used (emptied chunks) addr n ≡ false
-    go [] = refl
-    go (newest ∷ older) = grind (arith, nat_tests)
+reset_unused state addr n some = grind (arith, nat_tests)
 
 -- No byte is in use afterwards.
 pub reset_used : (state : State) → used_bytes (reset state) ≡ 0
-reset_used state = go state.chunks
-  where
-    go : (chunks : List Chunk) → sum (map used_length (emptied chunks)) ≡ 0
-    go [] = refl
-    go (newest ∷ older) = omega arith
+reset_used state = grind arith
 
 -- Only the newest chunk remains.
 pub reset_newest : (state : State) → newest_size (reset state).chunks ≡ newest_size state.chunks
-reset_newest state = go state.chunks
-  where
-    go : (chunks : List Chunk) → newest_size (emptied chunks) ≡ newest_size chunks
-    go [] = refl
-    go (newest ∷ older) = refl
+reset_newest state = grind arith
 
 pub reset_allocated : (state : State) → allocated_bytes (reset state) ≡ newest_size state.chunks
-reset_allocated state = go state.chunks
-  where
-    go : (chunks : List Chunk) → sum (map (λ (c : Chunk). c.size) (emptied chunks)) ≡ newest_size chunks
-    go [] = refl
-    go (newest ∷ older) = omega arith
+reset_allocated state = grind arith

@@ -119,37 +119,29 @@ alloc_from state size align k outcome valid power =
     (λ p found spot. rw found (in_newest state size align p valid spot))
     (λ e p none grown spot. rw none (in_new state size align e p grown spot)) (λ none. tt)
 
--- an allocation that returned p
-pub alloc_taken : (state new : State) (size align k p : ℕ) → IsValid state → IsTrue (is_power align)
-    → alloc state size align k ≡ Some (record { answer = Some p; state = new })
-    → IsTaken state new (placed_below (place state size align) state new) size align
-alloc_taken state new size align k p valid power step =
-    alloc_from state size align k (record { answer = Some p; state = new }) valid power step
-
--- a new block takes at least its size
-pub alloc_least : (state new : State) (size align k p : ℕ) → IsValid state → IsTrue (is_power align)
-    → alloc state size align k ≡ Some (record { answer = Some p; state = new })
-    → used_bytes state + size ≤ used_bytes new
-alloc_least state new size align k p valid power step =
-    let takes = alloc_taken state new size align k p valid power step in
-    omega (arith, takes, taken_least (placed_below (place state size align) state new) size (unit_of state align) takes.fits)
-
 -- the greater of an alignment and the least one is positive
 pub unit_positive : (state : State) (align : ℕ) → IsValid state → 0 < unit_of state align
 unit_positive state align valid = omega (arith, min_align_positive state.min_align valid.min_align)
 
--- and less than a unit more
-pub alloc_most : (state new : State) (size align k p : ℕ) → IsValid state → IsTrue (is_power align)
-    → alloc state size align k ≡ Some (record { answer = Some p; state = new })
-    → used_bytes new ≤ used_bytes state + size + (unit_of state align - 1)
-alloc_most state new size align k p valid power step =
-    let takes = alloc_taken state new size align k p valid power step in
-    omega (
-      arith,
-      takes,
-      taken_most (placed_below (place state size align) state new) size (unit_of state align)
-          (unit_positive state align valid) takes.fits,
-    )
+module _ (state new : State) (size align k p : ℕ) (valid : IsValid state) (power : IsTrue (is_power align))
+    (step : alloc state size align k ≡ Some (record { answer = Some p; state = new })) where
+  -- an allocation that returned p
+  pub alloc_taken : IsTaken state new (placed_below (place state size align) state new) size align
+  alloc_taken = alloc_from state size align k (record { answer = Some p; state = new }) valid power step
+
+  -- a new block takes at least its size
+  pub alloc_least : used_bytes state + size ≤ used_bytes new
+  alloc_least =
+      omega (arith, alloc_taken, taken_least (placed_below (place state size align) state new) size (unit_of state align) alloc_taken.fits)
+
+  -- and less than a unit more
+  pub alloc_most : used_bytes new ≤ used_bytes state + size + (unit_of state align - 1)
+  alloc_most = omega (
+    arith,
+    alloc_taken,
+    taken_most (placed_below (place state size align) state new) size (unit_of state align)
+        (unit_positive state align valid) alloc_taken.fits,
+  )
 
 -- a block of whole units that is placed below a multiple takes exactly its size
 exact_below : (state new : State) (from size align : ℕ) → IsValid state → IsTaken state new from size align → from % unit_of state align ≡ 0

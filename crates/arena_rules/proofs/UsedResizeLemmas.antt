@@ -125,7 +125,8 @@ module _ (state : State) (p size align new_size new_align q : ℕ) (valid : IsVa
   pub growth_exact : p % align ≡ 0 → new_size % state.min_align ≡ 0 → (new_size - size) % unit_of state align ≡ 0
       → p - q ≡ new_size - size
   growth_exact aligned whole by =
-      let needs : growth state size new_size ≡ new_size - size = ap (λ (n : ℕ). n - size) (up_same new_size state.min_align positive whole) in
+      let needs : growth state size new_size ≡ new_size - size =
+      ap (λ (n : ℕ). n - size) (up_same new_size state.min_align positive whole) in
       let low : p % state.min_align ≡ 0 = rw grows.at (cursor_aligned state valid) in
       growth_taken ∙ ap (λ (n : ℕ). taken p n (unit_of state align)) needs
       ∙ taken_exact p (new_size - size) (unit_of state align) (unit_positive state align valid) (omega (arith, grows, needs))
