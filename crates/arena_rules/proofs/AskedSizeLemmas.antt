@@ -1,5 +1,5 @@
 -- How large the chunks are that an allocation asks for, and when it asks for one.
-use Rattle.std.proofs.Common.{◌≡◌, ℕ, zero, suc, ◌+◌, ◌-◌, ◌*◌, ◌/◌, ◌^◌, ◌<◌, ◌≤◌, max, sym, refl, subst, arith, IsTrue, Some, None, Option, List, [], ◌∷◌, length, take, map, sum, inl, inr, true, false, Bool}
+use Rattle.std.proofs.Common.{◌≡◌, ℕ, zero, suc, ◌+◌, ◌-◌, ◌*◌, ◌/◌, ◌^◌, ◌<◌, ◌≤◌, max, sym, refl, arith, IsTrue, Some, None, Option, List, [], ◌∷◌, length, take, map, sum, inl, inr, true, false}
 use Rattle.std.specs.Prelude.{nat_le}
 use Rattle.std.specs.List.{filter_map, cons_option, AllByRecursion}
 use Rattle.std.proofs.lemmas.Bool.{cases_lt, cases_Bool}
@@ -7,7 +7,7 @@ use Rattle.std.proofs.lemmas.Bool.Decides.{nat_tests}
 use Rattle.std.proofs.lemmas.List.Sums.{sum_by-cons}
 use Rattle.std.proofs.Math.Nat.{pow-suc}
 use Rattle.arena_rules.specs.Rounding.{down, up, is_layout, is_power_among}
-use Rattle.arena_rules.specs.State.{State, Chunk, AreChunks, FitsKind, IsValid, start_of, cursor_of, top_of, floor_of, newest_size, used_length, used_bytes, allocated_bytes}
+use Rattle.arena_rules.specs.State.{State, Chunk, AreChunks, IsValid, start_of, cursor_of, top_of, floor_of, newest_size, used_length, used_bytes, allocated_bytes}
 use Rattle.arena_rules.specs.Search.{place, halves, possible, entries, rounded_size, chunk_align, next_base, least_size, asked, asked_above, requests, alloc_requests, requests_at}
 use Rattle.arena_rules.specs.Used.{unit_of}
 use Rattle.arena_rules.specs.Asking.{IsRequestWithin, most_asked}
@@ -73,12 +73,7 @@ newest_short state size align valid none =
 
 -- An arena that doesn't grow has one chunk.
 pub one_chunk : (state : State) → IsValid state → state.is_growing ≡ false → allocated_bytes state ≡ newest_size state.chunks
-one_chunk state valid still = go state.chunks (subst (λ (b : Bool). FitsKind b state.chunks) still valid.kind)
-  where
-    go : (chunks : List Chunk) → FitsKind false chunks → sum (map (λ (c : Chunk). c.size) chunks) ≡ newest_size chunks
-    go [] fits = absurd fits
-    go (newest ∷ []) fits = omega arith
-    go (newest ∷ (next ∷ older)) fits = absurd fits
+one_chunk state valid still = grind (arith, still, valid.kind)
 
 -- ---- What is asked for
 

@@ -1,7 +1,7 @@
 -- What remains of a state that goes back to a mark.
 use Rattle.std.proofs.Common.{◌≡◌, ℕ, zero, suc, ◌-◌, ◌%◌, ◌<◌, ◌≤◌, max, refl, sym, ap, subst, arith, eqb-true, leb-true, List, [], ◌∷◌, IsTrue, Bool, true, false, sum, map, length, drop, inl, inr}
 use Rattle.std.specs.Prelude.{◌==◌, ◌&&◌, nat_le, if◌then◌else◌}
-use Rattle.std.proofs.lemmas.Bool.{and_parts, or_cases, or_left, or_right, cases_lt}
+use Rattle.std.proofs.lemmas.Bool.{and_parts, or_right, cases_lt}
 use Rattle.std.proofs.lemmas.Bool.Decides.{nat_tests}
 use Rattle.std.proofs.lemmas.List.Sums.{sum_by-cons}
 use Rattle.arena_rules.specs.State.{State, Chunk, AreChunks, FitsKind, IsValid, start_of, cursor_of, top_of, floor_of, data_end, used_length, used_bytes, is_used_by, is_range_used}
@@ -74,8 +74,7 @@ valid_raised m c (newest ∷ older) valid aligned high = (
 )
 
 pub floor_raised : (c : ℕ) (chunks : List Chunk) → floor_of (raised c chunks) ≡ floor_of chunks
-floor_raised c [] = refl
-floor_raised c (newest ∷ older) = refl
+floor_raised c chunks = grind arith
 
 kind_raised : (growing : Bool) (c : ℕ) (chunks : List Chunk) → FitsKind growing chunks → FitsKind growing (raised c chunks)
 kind_raised true c (newest ∷ older) fits = fits
@@ -83,15 +82,7 @@ kind_raised false c (newest ∷ (next ∷ older)) fits = fits
 kind_raised _ c _ fits = fits
 
 used_raised : (c addr n : ℕ) (chunks : List Chunk) → IsTrue (is_range_used (raised c chunks) addr n) → IsTrue (is_range_used chunks addr n)
-used_raised c addr n [] used = used
-used_raised c addr n (newest ∷ older) used =
-    elim (or_cases (is_used_by addr n (record newest { cursor = max newest.cursor c })) (is_range_used older addr n) used) [
-      | inl here ↦
-          let bounds = within addr n (record newest { cursor = max newest.cursor c }) here in
-          let under : newest.cursor ≤ addr = omega (arith, bounds) in
-          or_left (is_used_by addr n newest) (is_range_used older addr n) (grind (arith, nat_tests))
-      | inr there ↦ or_right (is_used_by addr n newest) (is_range_used older addr n) there
-    ]
+used_raised c addr n chunks used = grind (arith, nat_tests)
 
 total_raised : (c : ℕ) (chunks : List Chunk) → sum (map used_length (raised c chunks)) ≤ sum (map used_length chunks)
 total_raised c [] = omega arith
@@ -158,9 +149,6 @@ none_left chunks n none = rw none (all_dropped chunks (length chunks - 0) (omega
     all_dropped (x ∷ l) zero fits = absurd (omega arith)
     all_dropped (x ∷ l) (suc k) fits = all_dropped l k (omega arith)
 
-not_both : (b : Bool) → b ≡ true → b ≡ false → ⊥
-not_both b is_true is_false = cc
-
 -- the oldest chunks make a valid state, too, if an arena that doesn't grow keeps one
 pub first_valid : (n : ℕ) (state : State) → IsValid state → (n ≡ 0 → state.is_growing ≡ true)
     → IsValid (record state { chunks = first_chunks n state.chunks })
@@ -176,7 +164,7 @@ first_valid n state valid growing = record {
     kind true same = rw same (kind_after (length state.chunks - n) state.chunks (rw same at valid.kind))
     kind false same = elim (cases_lt 0 n) [
       | inl some ↦ rw same (kind_fixed n state.chunks some (rw same at valid.kind))
-      | inr none ↦ absurd (not_both state.is_growing (growing (omega arith)) same)
+      | inr none ↦ let grows = growing (omega arith) in absurd (cc)
     ]
 
 pub back_valid : (mark : Point) (state : State) → IsValid state → IsTrue (accepts mark state) → IsValid (back mark state)

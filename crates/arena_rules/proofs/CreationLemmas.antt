@@ -12,6 +12,7 @@ use Rattle.arena_rules.specs.Creation.{empty_state, fixed_state, capacity_chunk,
 use Rattle.arena_rules.proofs.RoundingLemmas.{min_align_multiple, min_align_power}
 use Rattle.arena_rules.proofs.EntryLemmas.{IsEntry, possible_entry}
 use Rattle.arena_rules.proofs.AllocLemmas.{valid_grown}
+use Rattle.std.proofs.lemmas.Bool.Decides.{nat_tests}
 
 -- an arena without a chunk
 pub growing_valid : (m : ℕ) → IsTrue (is_min_align m) → IsValid (empty_state m)
@@ -79,18 +80,4 @@ created_valid m capacity k state min_align =
 -- an arena that is made has no byte in use
 pub created_unused : (m capacity k : ℕ) (state : State) → create m capacity k ≡ Some (Some state) → used_bytes state ≡ 0
 unfolding create
-created_unused m capacity k state =
-    let IsUnused : State → Type 0 = λ (s : State). used_bytes s ≡ 0 in
-    cond_both (capacity == 0) _ _ (λ (o : Option (Option State)). o ≡ Some (Some state) → used_bytes state ≡ 0)
-    (λ none made. subst IsUnused (same_Some (empty_state m) state (cond_some (k == 0) (Some (empty_state m)) (Some state) made).1) refl)
-    (λ more. go (capacity_chunk capacity m) k)
-  where
-    go : (o : Option (ℕ × ℕ)) (k : ℕ) → create_at o m k ≡ Some (Some state) → used_bytes state ≡ 0
-    go None zero at = cc
-    go None (suc k) at = cc
-    go (Some e) zero at =
-        subst (λ (s : State). used_bytes s ≡ 0) (same_Some (with_chunk e (empty_state m)) state
-        (same_Some (Some (with_chunk e (empty_state m))) (Some state) at))
-        (used_with_chunk (empty_state m) e)
-    go (Some e) (suc zero) at = cc
-    go (Some e) (suc (suc k)) at = cc
+created_unused m capacity k state made = grind (arith, nat_tests, used_with_chunk)

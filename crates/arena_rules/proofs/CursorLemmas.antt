@@ -5,8 +5,7 @@ use Rattle.arena_rules.specs.Moves.{set_cursor}
 use Rattle.arena_rules.proofs.RoundingLemmas.{min_align_multiple}
 
 pub floor_positive : (chunks : List Chunk) → 0 < floor_of chunks
-floor_positive [] = omega arith
-floor_positive (newest ∷ older) = omega arith
+floor_positive chunks = grind arith
 
 pub start_positive : (state : State) → IsValid state → 0 < start_of state.chunks
 start_positive state valid = grind (arith, floor_positive)
@@ -87,9 +86,7 @@ pub cursor_set : (p : ℕ) → (chunks : List Chunk) → start_of chunks ≤ p �
 cursor_set p chunks low high = grind arith
 
 pub top_floor : (chunks : List Chunk) → top_of chunks ≤ floor_of chunks
-top_floor [] = omega arith
-top_floor (newest ∷ older) = omega arith
+top_floor chunks = grind arith
 
 pub floor_near : (chunks : List Chunk) → floor_of chunks ≤ top_of chunks + 4096
-floor_near [] = omega arith
-floor_near (newest ∷ older) = omega arith
+floor_near chunks = grind arith

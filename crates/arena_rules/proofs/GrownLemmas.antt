@@ -24,11 +24,7 @@ grown_then a b c one two = record { allocated = omega (arith, one.allocated, two
 
 -- another cursor
 pub cursor_grown : (p : ℕ) (state : State) → HasGrown state (with_cursor p state)
-cursor_grown p state = go state.chunks
-  where
-    go : (chunks : List Chunk) → HasGrown (record state { chunks = chunks }) (with_cursor p (record state { chunks = chunks }))
-    go [] = record { allocated = omega arith; top = omega arith }
-    go (newest ∷ older) = record { allocated = omega arith; top = omega arith }
+cursor_grown p state = record { allocated = grind arith; top = grind arith }
 
 -- one more chunk
 chunk_grown : (state : State) (e : ℕ × ℕ) → e.0 < floor_of state.chunks + 16 → 16320 ≤ e.1 → HasGrown state (with_chunk e state)

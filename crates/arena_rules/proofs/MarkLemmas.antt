@@ -1,10 +1,10 @@
 -- What becomes of marks as the state changes.
 use Rattle.std.proofs.Common.{◌≡◌, ℕ, suc, ◌+◌, ◌-◌, ◌≤◌, ◌⊎◌, max, refl, sym, ap, subst, ◌∙◌, arith, le-leb, List, [], ◌∷◌, IsTrue, Some, length, drop, inl, inr}
-use Rattle.std.proofs.lemmas.Bool.{or_cases, or_left, or_right, cases_lt}
+use Rattle.std.proofs.lemmas.Bool.{cases_lt}
 use Rattle.std.proofs.lemmas.Bool.Decides.{nat_tests}
 use Rattle.std.proofs.lemmas.List.{length-drop, drop-drop}
 use Rattle.arena_rules.specs.Rounding.{up}
-use Rattle.arena_rules.specs.State.{State, Chunk, start_of, cursor_of, top_of, is_used_by, is_range_used, with_newest_cursor, with_cursor}
+use Rattle.arena_rules.specs.State.{State, Chunk, start_of, cursor_of, top_of, is_range_used, with_newest_cursor, with_cursor}
 use Rattle.arena_rules.specs.Moves.{Outcome, Resizing, alloc, resize, dealloc, placed, stays, fails}
 use Rattle.arena_rules.specs.Moves.Resizing.{Stays, Moves, Anew, Refused}
 use Rattle.arena_rules.specs.Back.{Point, first_chunks, raised, back, accepts, KeepsMark}
@@ -34,19 +34,7 @@ record IsBelow (n : ℕ) (old new : List Chunk) : Type 0 where
 used_moved : (c p addr k : ℕ) (chunks : List Chunk) → IsTrue (is_range_used (with_newest_cursor p chunks) addr k)
     → IsTrue (is_range_used (raised c chunks) addr k)
     → IsTrue (is_range_used (raised c (with_newest_cursor p chunks)) addr k)
-used_moved c p addr k [] used marked = used
-used_moved c p addr k (newest ∷ older) used told =
-    elim (or_cases (is_used_by addr k (record newest { cursor = p })) (is_range_used older addr k) used) [
-      | inr there ↦ or_right (is_used_by addr k (record newest { cursor = max p c })) (is_range_used older addr k) there
-      | inl here ↦ elim (or_cases (is_used_by addr k (record newest { cursor = max newest.cursor c })) (is_range_used older addr k) told) [
-        | inr there ↦ or_right (is_used_by addr k (record newest { cursor = max p c })) (is_range_used older addr k) there
-        | inl too ↦
-            let first = within addr k (record newest { cursor = p }) here in
-            let second = within addr k (record newest { cursor = max newest.cursor c }) too in
-            let under : max p c ≤ addr = omega (arith, first, second) in
-            or_left (is_used_by addr k (record newest { cursor = max p c })) (is_range_used older addr k) (grind (arith, nat_tests))
-      ]
-    ]
+used_moved c p addr k chunks used told = grind (arith, nat_tests)
 
 is_below : (n : ℕ) (old new : List Chunk) → n ≤ length old → StayBelow n old new → IsBelow n old new
 is_below n old new within stay = elim stay [
@@ -190,8 +178,7 @@ dealloc_keeps_mark mark state p size holds = next_keeps mark state (dealloc stat
 -- ---- Going back to a newer mark
 
 raised_is : (c : ℕ) (chunks : List Chunk) → raised c chunks ≡ with_newest_cursor (max (cursor_of chunks) c) chunks
-raised_is c [] = refl
-raised_is c (newest ∷ older) = refl
+raised_is c chunks = grind arith
 
 back_below : (n : ℕ) (mark : Point) (chunks : List Chunk) → n ≤ mark.chunks → mark.chunks ≤ length chunks
     → StayBelow n chunks (raised mark.cursor (first_chunks mark.chunks chunks))

@@ -1,5 +1,5 @@
 -- Which blocks in use are in a mark's part.
-use Rattle.std.proofs.Common.{ℕ, zero, suc, ◌-◌, ◌<◌, ◌≤◌, max, inl, inr, refl, arith, leb-true, lt-ltb, le-leb, List, [], ◌∷◌, IsTrue, length, drop}
+use Rattle.std.proofs.Common.{ℕ, zero, suc, ◌-◌, ◌<◌, ◌≤◌, inl, inr, refl, arith, leb-true, lt-ltb, le-leb, List, [], ◌∷◌, IsTrue, length, drop}
 use Rattle.std.specs.Prelude.{◌&&◌, ◌||◌, nat_le, nat_lt}
 use Rattle.std.proofs.lemmas.Bool.{and_parts, or_cases, or_left, or_right}
 use Rattle.std.proofs.lemmas.Bool.Decides.{nat_tests}
@@ -11,11 +11,7 @@ use Rattle.arena_rules.proofs.UsedLemmas.{used_under, used_beside, within}
 
 module _ (m addr n : ℕ) (some : 0 < n) where
   under_top : (chunks : List Chunk) → AreChunks m chunks → IsTrue (is_range_used chunks addr n) → addr < top_of chunks
-  under_top [] valid used = cc
-  under_top (newest ∷ older) valid used = elim (or_cases (is_used_by addr n newest) (is_range_used older addr n) used) [
-    | inl here ↦ (let high = (within addr n newest here).high in omega arith)
-    | inr there ↦ omega (arith, used_under m addr n older valid.2 some there, valid.1)
-  ]
+  under_top chunks valid used = grind (arith, nat_tests, used_under)
 
   -- what is below the data end of the older chunks is in use by one of them
   in_first : (k : ℕ) (chunks : List Chunk) → AreChunks m chunks → addr < top_of (drop k chunks) → IsTrue (is_range_used chunks addr n)
@@ -32,41 +28,14 @@ module _ (m addr n : ℕ) (some : 0 < n) where
   in_raised : (c : ℕ) (chunks : List Chunk) → AreChunks m chunks → IsTrue (nat_lt addr (start_of chunks) || nat_le c addr)
       → IsTrue (is_range_used chunks addr n)
       → IsTrue (is_range_used (raised c chunks) addr n)
-  in_raised c [] valid marked used = used
-  in_raised c (newest ∷ older) valid marked used = elim (or_cases (is_used_by addr n newest) (is_range_used older addr n) used) [
-    | inr there ↦ or_right (is_used_by addr n (record newest { cursor = max newest.cursor c })) (is_range_used older addr n) there
-    | inl here ↦
-        let low = (within addr n newest here).low in
-        let high = (within addr n newest here).high in
-        elim (or_cases (nat_lt addr newest.base) (nat_le c addr) marked) [
-          | inl under ↦ (let below : addr < newest.base = leb-true _ _ under in absurd (omega (arith, valid.0.cursor_low)))
-          | inr past ↦
-              let over : c ≤ addr = leb-true _ _ past in
-              let from : max newest.cursor c ≤ addr = omega arith in
-              or_left (is_used_by addr n (record newest { cursor = max newest.cursor c })) (is_range_used older addr n)
-              (grind (arith, nat_tests))
-        ]
-  ]
+  in_raised c chunks valid marked used = grind (arith, nat_tests)
 
   raised_in : (c : ℕ) (chunks : List Chunk) → AreChunks m chunks → IsTrue (is_range_used (raised c chunks) addr n)
       → IsTrue (nat_lt addr (start_of chunks) || nat_le c addr)
-  raised_in c [] valid used = cc
-  raised_in c (newest ∷ older) valid used =
-      elim (or_cases (is_used_by addr n (record newest { cursor = max newest.cursor c })) (is_range_used older addr n) used) [
-        | inl here ↦
-            let low = (within addr n (record newest { cursor = max newest.cursor c }) here).low in
-            or_right (nat_lt addr newest.base) (nat_le c addr) (le-leb _ _ (omega arith))
-        | inr there ↦ or_left (nat_lt addr newest.base) (nat_le c addr)
-            (lt-ltb _ _ (omega (arith, used_under m addr n older valid.2 some there, valid.1)))
-      ]
+  raised_in c chunks valid used = grind (arith, nat_tests, used_under)
 
   raised_used : (c : ℕ) (chunks : List Chunk) → AreChunks m chunks → IsTrue (is_range_used (raised c chunks) addr n) → addr < top_of chunks
-  raised_used c [] valid used = cc
-  raised_used c (newest ∷ older) valid used =
-      elim (or_cases (is_used_by addr n (record newest { cursor = max newest.cursor c })) (is_range_used older addr n) used) [
-        | inl here ↦ (let high = (within addr n (record newest { cursor = max newest.cursor c }) here).high in omega arith)
-        | inr there ↦ omega (arith, used_under m addr n older valid.2 some there, valid.1, valid.0.cursor_low, valid.0.cursor_high)
-      ]
+  raised_used c chunks valid used = grind (arith, nat_tests, used_under)
 
   -- if the newest cursor is in a part, so is everything in use
   past_cursor : (c k : ℕ) (chunks : List Chunk) → AreChunks m chunks → IsTrue (is_range_used chunks addr n)

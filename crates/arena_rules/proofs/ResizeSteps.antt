@@ -1,6 +1,6 @@
 -- What becomes of a block that is resized, case by case.
-use Rattle.std.proofs.Common.{◌≡◌, ℕ, ◌+◌, ◌*◌, ◌%◌, ◌<◌, ◌≤◌, ◌⊎◌, inl, inr, refl, arith, true, false, Bool, Some, None, eq-eqb, ne_eqb}
-use Rattle.std.specs.Prelude.{nat_le, nat_lt, ◌==◌, ◌&&◌}
+use Rattle.std.proofs.Common.{◌≡◌, ℕ, ◌+◌, ◌*◌, ◌%◌, ◌<◌, ◌≤◌, ◌⊎◌, refl, arith, true, false, Some, None, eq-eqb}
+use Rattle.std.specs.Prelude.{nat_le, ◌==◌, ◌&&◌}
 use Rattle.std.proofs.lemmas.Bool.Decides.{nat_tests}
 use Rattle.arena_rules.specs.Rounding.{is_layout}
 use Rattle.arena_rules.specs.State.{State, cursor_of}
@@ -14,47 +14,25 @@ module _ (state : State) (p size align new_size new_align : ℕ) where
   -- if the alignment doesn't rise, away from the cursor or if little is freed, it stays
   pub shrinks_still : new_align ≤ align → ((p ≡ cursor_of state.chunks → ⊥) ⊎ (2 * shrink_step state size new_size new_align < size))
       → shrinking state p size align new_size new_align ≡ Stays
-  shrinks_still low still =
-      let lower : nat_lt align new_align ≡ false = grind (arith, nat_tests) in
-      let here : (p == cursor_of state.chunks && nat_le size (2 * shrink_step state size new_size new_align)) ≡ false = elim still [
-        | inl away ↦ rw (ne_eqb _ _ away) refl
-        | inr little ↦ grind (arith, nat_tests)
-      ] in
-      rw (lower, here) refl
+  shrinks_still low still = grind (arith, nat_tests)
 
   -- at the cursor it moves up, if that frees at least half of it
   pub shrinks_up : new_align ≤ align → p ≡ cursor_of state.chunks → size ≤ 2 * shrink_step state size new_size new_align
       → shrinking state p size align new_size new_align ≡ Moves (p + shrink_step state size new_size new_align)
-  shrinks_up low at half =
-      let lower : nat_lt align new_align ≡ false = grind (arith, nat_tests) in
-      let much : nat_le size (2 * shrink_step state size new_size new_align) ≡ true = grind (arith, nat_tests) in
-      rw (lower, eq-eqb _ _ at, much) refl
+  shrinks_up low at half = grind (arith, nat_tests)
 
   -- to a greater alignment it stays if its address is a multiple of that, and otherwise is allocated again
   pub shrinks_aligned : align < new_align → p % new_align ≡ 0 → shrinking state p size align new_size new_align ≡ Stays
-  shrinks_aligned high aligned =
-      let higher : nat_lt align new_align ≡ true = grind (arith, nat_tests) in
-      rw (higher, eq-eqb _ _ aligned) refl
+  shrinks_aligned high aligned = grind (arith, nat_tests)
 
   pub shrinks_by_alloc : align < new_align → (p % new_align ≡ 0 → ⊥) → shrinking state p size align new_size new_align ≡ Anew
-  shrinks_by_alloc high apart =
-      let higher : nat_lt align new_align ≡ true = grind (arith, nat_tests) in
-      rw (higher, ne_eqb _ _ apart) refl
+  shrinks_by_alloc high apart = grind (arith, nat_tests)
 
   -- ---- Growing
 
   -- away from the cursor, or to a greater alignment, it is allocated again
   pub grows_by_alloc : (align < new_align) ⊎ (p ≡ cursor_of state.chunks → ⊥) → growing state p size align new_size new_align ≡ Anew
-  grows_by_alloc away =
-      let not_here : (nat_le new_align align && p == cursor_of state.chunks) ≡ false = elim away [
-        | inl high ↦ let higher : nat_le new_align align ≡ false = grind (arith, nat_tests) in rw higher refl
-        | inr other ↦ rw (ne_eqb _ _ other) (and_false (nat_le new_align align))
-      ] in
-      rw not_here refl
-    where
-      and_false : (b : Bool) → (b && false) ≡ false
-      and_false true = refl
-      and_false false = refl
+  grows_by_alloc away = grind (arith, nat_tests)
 
   -- the block is at the cursor, and its alignment doesn't rise
   pub record IsHere : Type 0 where

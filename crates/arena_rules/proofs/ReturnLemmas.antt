@@ -1,5 +1,5 @@
 -- Blocks that are given back.
-use Rattle.std.proofs.Common.{◌≡◌, ℕ, ◌+◌, ◌<◌, ◌≤◌, inl, inr, refl, ap, sym, subst, ◌∙◌, arith, List, [], ◌∷◌, IsTrue, Bool, eq-eqb, ne_eqb, sum, map}
+use Rattle.std.proofs.Common.{◌≡◌, ℕ, ◌+◌, ◌<◌, ◌≤◌, inl, inr, refl, ap, sym, subst, ◌∙◌, arith, List, [], IsTrue, Bool, eq-eqb, ne_eqb, sum, map}
 use Rattle.std.specs.Prelude.{◌==◌, ◌||◌}
 use Rattle.std.proofs.lemmas.Bool.{cases_eq, cases_lt}
 use Rattle.std.proofs.lemmas.Bool.Decides.{nat_tests}
@@ -43,8 +43,7 @@ dealloc_generation state p size = dealloc_by (λ (s : State). s.generation ≡ s
 -- another cursor changes no size
 pub allocated_moved : (p : ℕ) (chunks : List Chunk)
     → sum (map (λ (c : Chunk). c.size) (with_newest_cursor p chunks)) ≡ sum (map (λ (c : Chunk). c.size) chunks)
-allocated_moved p [] = refl
-allocated_moved p (newest ∷ older) = refl
+allocated_moved p chunks = grind arith
 
 pub dealloc_allocated : (state : State) (p size : ℕ) → allocated_bytes (dealloc state p size) ≡ allocated_bytes state
 dealloc_allocated state p size =
@@ -110,8 +109,7 @@ dealloc_valid state block valid used =
     (block_end state block valid used at) refl).valid) valid
 
 cursor_same : (chunks : List Chunk) → with_newest_cursor (cursor_of chunks) chunks ≡ chunks
-cursor_same [] = refl
-cursor_same (newest ∷ older) = refl
+cursor_same chunks = grind arith
 
 -- Giving back an empty block changes nothing.
 pub dealloc_empty : (state : State) (p : ℕ) → IsValid state → dealloc state p 0 ≡ state

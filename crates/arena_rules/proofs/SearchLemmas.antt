@@ -6,7 +6,6 @@ use Rattle.std.proofs.lemmas.Option.{cond_some, option_and_then_some}
 use Rattle.std.proofs.Math.Nat.{pow-suc}
 use Rattle.std.specs.Prelude.{nat_le, if◌then◌else◌}
 use Rattle.std.specs.List.{filter_map, cons_option}
-use Rattle.std.specs.Option.{option_and_then}
 use Rattle.arena_rules.specs.Rounding.{up, is_layout}
 use Rattle.arena_rules.specs.Search.{halves, possible, entries, asked_above, size_for, rounded_size, chunk_align}
 
@@ -69,12 +68,7 @@ entries_end base size align n least small = rw (halves_none 64 n least small) re
 -- no chunk begins above the last address
 past_end : (base size align n : ℕ) → 2 ^ 64 ≤ base → possible base size align n ≡ None
 unfolding possible
-past_end base size align n high = go (size_for n size align)
-  where
-    go : (o : Option ℕ) → option_and_then {U = ℕ × ℕ}
-        (λ bytes. if nat_le (base + bytes + 48) (2 ^ 64 - 1) then Some (base, bytes) else None) o ≡ None
-    go None = refl
-    go (Some bytes) = grind (arith, nat_tests)
+past_end base size align n high = grind (arith, nat_tests)
 
 pub entries-past_end : (base size align first least : ℕ) → 2 ^ 64 ≤ base → entries base size align first least ≡ []
 unfolding entries

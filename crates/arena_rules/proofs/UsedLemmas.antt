@@ -16,14 +16,7 @@ within addr n chunk used = record { low = grind (arith, nat_tests); high = grind
 -- a range in the newest chunk stays in use if the cursor moves to a place below it
 pub used_set : (q addr n : ℕ) → (chunks : List Chunk) → (cursor_of chunks ≤ addr → q ≤ addr) → IsTrue (is_range_used chunks addr n)
     → IsTrue (is_range_used (with_newest_cursor q chunks) addr n)
-used_set q addr n [] low used = used
-used_set q addr n (newest ∷ older) low used = elim (or_cases (is_used_by addr n newest) (is_range_used older addr n) used) [
-  | inl here ↦
-      let bounds = within addr n newest here in
-      let reach = low bounds.low in
-      or_left (is_used_by addr n (record newest { cursor = q })) (is_range_used older addr n) (grind (arith, nat_tests))
-  | inr there ↦ or_right (is_used_by addr n (record newest { cursor = q })) (is_range_used older addr n) there
-]
+used_set q addr n chunks low used = grind (arith, nat_tests)
 
 -- one more chunk leaves in use what was
 pub used_grown : (addr n : ℕ) (chunk : Chunk) (chunks : List Chunk) → IsTrue (is_range_used chunks addr n)
@@ -58,14 +51,7 @@ used_low state addr n valid some = go state.chunks valid.chunks
 -- what is in use ends at or below the newest chunk's data end
 pub used_high : (state : State) (addr n : ℕ) → IsValid state → 0 < n → IsTrue (is_range_used state.chunks addr n)
     → addr + n ≤ top_of state.chunks
-used_high state addr n valid some = go state.chunks valid.chunks
-  where
-    go : (chunks : List Chunk) → AreChunks state.min_align chunks → IsTrue (is_range_used chunks addr n) → addr + n ≤ top_of chunks
-    go [] fine used = cc
-    go (newest ∷ older) fine used = elim (or_cases (is_used_by addr n newest) (is_range_used older addr n) used) [
-      | inl here ↦ omega (arith, within addr n newest here)
-      | inr there ↦ omega (arith, used_under state.min_align addr n older fine.2 some there, fine.1)
-    ]
+used_high state addr n valid some used = grind (arith, nat_tests, used_under)
 
 -- and so below the last address
 pub used_below_last : (state : State) (addr n : ℕ) → IsValid state → 0 < n → IsTrue (is_range_used state.chunks addr n) → addr + n < 2 ^ 64
@@ -74,41 +60,24 @@ used_below_last state addr n valid some used = omega (arith, used_high state add
 -- what is in use is at or above the cursor, or below the newest chunk
 pub used_beside : (m addr n : ℕ) → (chunks : List Chunk) → AreChunks m chunks → 0 < n → IsTrue (is_range_used chunks addr n)
     → (cursor_of chunks ≤ addr) ⊎ (addr + n ≤ start_of chunks)
-used_beside m addr n [] valid some used = cc
-used_beside m addr n (newest ∷ older) valid some used = elim (or_cases (is_used_by addr n newest) (is_range_used older addr n) used) [
-  | inl here ↦ inl (within addr n newest here).low
-  | inr there ↦ inr (omega (arith, used_under m addr n older valid.2 some there, valid.1))
-]
+used_beside m addr n chunks valid some used = grind (arith, nat_tests, used_under)
 
 -- everything from the cursor on is in use
 pub used_from : (p size : ℕ) → (chunks : List Chunk) → 0 < size → start_of chunks ≤ p → p + size ≤ top_of chunks
     → IsTrue (is_range_used (with_newest_cursor p chunks) p size)
-used_from p size [] some low high = absurd (omega arith)
-used_from p size (newest ∷ older) some low high =
-    or_left (is_used_by p size (record newest { cursor = p })) (is_range_used older p size) (grind (arith, nat_tests))
+used_from p size chunks some low high = grind (arith, nat_tests)
 
 -- a range in use from the newest chunk on ends there
 pub used_top : (m addr n : ℕ) → (chunks : List Chunk) → AreChunks m chunks → 0 < n → start_of chunks ≤ addr
     → IsTrue (is_range_used chunks addr n)
     → addr + n ≤ top_of chunks
-used_top m addr n [] valid some low used = cc
-used_top m addr n (newest ∷ older) valid some low used = elim (or_cases (is_used_by addr n newest) (is_range_used older addr n) used) [
-  | inl here ↦ (within addr n newest here).high
-  | inr there ↦ absurd (omega (arith, used_under m addr n older valid.2 some there, valid.1))
-]
+used_top m addr n chunks valid some low used = grind (arith, nat_tests, used_under)
 
 -- what is in use above a higher cursor was in use
 pub used_before : (q addr n : ℕ) → (chunks : List Chunk) → cursor_of chunks ≤ q
     → IsTrue (is_range_used (with_newest_cursor q chunks) addr n)
     → IsTrue (is_range_used chunks addr n)
-used_before q addr n [] higher used = used
-used_before q addr n (newest ∷ older) higher used =
-    elim (or_cases (is_used_by addr n (record newest { cursor = q })) (is_range_used older addr n) used) [
-      | inl here ↦
-          let bounds = within addr n (record newest { cursor = q }) here in
-          or_left (is_used_by addr n newest) (is_range_used older addr n) (grind (arith, nat_tests))
-      | inr there ↦ or_right (is_used_by addr n newest) (is_range_used older addr n) there
-    ]
+used_before q addr n chunks higher used = grind (arith, nat_tests)
 
 pub used_part : (addr n a k : ℕ) → (chunks : List Chunk) → addr ≤ a → a + k ≤ addr + n → IsTrue (is_range_used chunks addr n)
     → IsTrue (is_range_used chunks a k)

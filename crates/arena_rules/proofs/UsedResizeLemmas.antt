@@ -16,6 +16,7 @@ use Rattle.arena_rules.proofs.PlaceLemmas.{IsPlace, is_place}
 use Rattle.arena_rules.proofs.CursorLemmas.{start_positive, cursor_within, cursor_aligned}
 use Rattle.arena_rules.proofs.ReturnLemmas.{block_end, is_return, dealloc_elsewhere}
 use Rattle.arena_rules.proofs.UsedBytesLemmas.{used_at, unit_positive, taken_most, taken_exact}
+use Rattle.std.proofs.lemmas.Bool.Decides.{nat_tests}
 
 -- ---- The state after a resize, by what becomes of the block
 
@@ -160,16 +161,7 @@ grow_refused state p size align new_size new_align k outcome is step =
 
 -- a block that grows never stays as it is
 pub growing_stays : (state : State) (p size align new_size new_align : ℕ) → growing state p size align new_size new_align ≡ Stays → ⊥
-growing_stays state p size align new_size new_align =
-    let Never : Resizing → Type 0 = λ (way : Resizing). way ≡ Stays → ⊥ in
-    cond_both (nat_le new_align align && p == cursor_of state.chunks) _ _ Never
-    (λ here. cond_both (is_layout (growth state size new_size) align) _ _ Never
-    (λ fine. go (place state (growth state size new_size) align)) (λ large is. cc))
-    (λ away is. cc)
-  where
-    go : (o : Option ℕ) → down_to o ≡ Stays → ⊥
-    go None is = cc
-    go (Some q) is = cc
+growing_stays state p size align new_size new_align is = grind (arith, nat_tests)
 
 -- ---- A block that shrinks in place
 
@@ -265,12 +257,7 @@ shrink_stays state p size align new_size new_align k outcome is step =
 -- a block that shrinks is never refused at once
 pub shrinking_refused : (state : State) (p size align new_size new_align : ℕ) → shrinking state p size align new_size new_align ≡ Refused
     → ⊥
-shrinking_refused state p size align new_size new_align =
-    let Never : Resizing → Type 0 = λ (way : Resizing). way ≡ Refused → ⊥ in
-    cond_both (nat_lt align new_align) _ _ Never
-    (λ higher. cond_both (p % new_align == 0) _ _ Never (λ at is. cc) (λ away is. cc))
-    (λ lower. cond_both (p == cursor_of state.chunks && nat_le size (2 * shrink_step state size new_size new_align)) _ _ Never
-    (λ both is. cc) (λ other is. cc))
+shrinking_refused state p size align new_size new_align is = grind (arith, nat_tests)
 
 -- ---- A block that is given back, and a cursor that is set
 
