@@ -1,8 +1,7 @@
 -- Marks, and what becomes of them as the state changes.
-use Rattle.std.proofs.Common.{◌≡◌, ◌≢◌, ℕ, suc, ◌-◌, ◌<◌, ◌≤◌, arith, refl, sym, ap, subst, ◌∙◌, add-one, ◌+◌, eq-eqb, ne_eqb, get_or, drop, drop-cons, length, List, [], ◌∷◌, Some, None, Option, Bool, true, false, IsTrue}
+use Rattle.std.proofs.Common.{◌≡◌, ℕ, suc, ◌-◌, ◌<◌, ◌≤◌, arith, refl, sym, subst, length, List, [], ◌∷◌, Some, Option, Bool, true, false, IsTrue}
 use Rattle.std.specs.Prelude.{◌==◌, if◌then◌else◌}
 use Rattle.std.specs.List.{remove}
-use Rattle.std.proofs.lemmas.List.{drop_all}
 use Rattle.std.proofs.lemmas.Option.{none-some, same_Some}
 use Rattle.arena_rules.specs.State.{State, Chunk}
 use Rattle.arena_rules.specs.Moves.{alloc, grow, growing, shrink, shrinking, dealloc}
@@ -13,33 +12,11 @@ use Rattle.arena_rules.proofs.MarkLemmas.{alloc_keeps, resize_keeps, dealloc_kee
 use Rattle.plain_machine.specs.Answers.{leaves}
 use Rattle.plain_machine.specs.Holding.{AreMarks}
 
--- ---- One mark after another
-
-named_at : (marks : Marks) (i : ℕ) (mark : ℕ × Point) (name : ℕ) → i < length marks → mark ≡ get_or marks i mark
-    → mark_named (drop i marks) name ≡ (if mark.0 == name then Some mark.1 else mark_named (drop (i + 1) marks) name)
-named_at marks i mark name low is =
-    rw add-one (ap (λ (l : Marks). mark_named l name)
-    (drop-cons marks i mark low ∙ ap (λ (m : ℕ × Point). m ∷ drop (suc i) marks) (sym is)))
-
-pub named_here : (marks : Marks) (i : ℕ) (mark : ℕ × Point) (name : ℕ) → i < length marks → mark ≡ get_or marks i mark → mark.0 ≡ name
-    → mark_named (drop i marks) name ≡ Some mark.1
-named_here marks i mark name low is same = named_at marks i mark name low is ∙ rw (eq-eqb mark.0 name same) refl
-
-pub named_later : (marks : Marks) (i : ℕ) (mark : ℕ × Point) (name : ℕ) → i < length marks → mark ≡ get_or marks i mark → mark.0 ≢ name
-    → mark_named (drop i marks) name ≡ mark_named (drop (i + 1) marks) name
-named_later marks i mark name low is other = named_at marks i mark name low is ∙ rw (ne_eqb mark.0 name other) refl
-
-pub named_none : (marks : Marks) (i : ℕ) (name : ℕ) → length marks ≤ i → mark_named (drop i marks) name ≡ None
-named_none marks i name past = rw (drop_all i marks past) refl
-
 -- ---- The first of a list is removed
 
 pub one_chunk_less : (n : ℕ) (chunks : List Chunk) → n < length chunks → first_chunks n (remove chunks 0) ≡ first_chunks n chunks
 one_chunk_less n [] more = absurd (omega arith)
 one_chunk_less n (newest ∷ older) more = let next : length (newest ∷ older) - n ≡ suc (length older - n) = omega arith in rw next refl
-
-pub no_chunk_less : (n : ℕ) (chunks : List Chunk) → length chunks ≤ n → first_chunks n chunks ≡ chunks
-no_chunk_less n chunks few = let none : length chunks - n ≡ 0 = omega arith in rw none refl
 
 -- ---- The marks of a state
 
