@@ -2,7 +2,7 @@
 use Rattle.std.proofs.Common.{◌≡◌, ℕ, ◌+◌, ◌-◌, ◌*◌, ◌%◌, ◌≤◌, max, ap, sym, refl, subst, ◌∙◌, arith, IsTrue, Some, None, Option, List, ◌∷◌, true, false, Bool, length, inl, inr, eq-eqb, leb-true, eqb-true, []}
 use Rattle.std.specs.Prelude.{slice_get, MatchOption, nat_le, ◌==◌, ◌↔◌, if◌then◌else◌}
 use Rattle.std.specs.Option.{option_map, IsSome}
-use Rattle.std.proofs.lemmas.Bool.{cases_Bool, cond_both}
+use Rattle.std.proofs.lemmas.Bool.{cond_both}
 use Rattle.std.proofs.lemmas.Option.{none-some, same_Some, cond_some, slice_get_past, slice_get_cases}
 use Rattle.arena_rules.specs.Rounding.{down, is_power}
 use Rattle.arena_rules.specs.State.{State, Chunk, FitsKind, IsValid, start_of, cursor_of, floor_of, newest_size}
@@ -13,6 +13,7 @@ use Rattle.arena_rules.proofs.PlaceLemmas.{IsPlace, is_place, place_found}
 use Rattle.arena_rules.proofs.CursorLemmas.{start_positive, start_set, cursor_set}
 use Rattle.arena_rules.proofs.EntryLemmas.{IsEntry, is_entry}
 use Rattle.arena_rules.proofs.SearchLemmas.{length-entries}
+use Rattle.std.proofs.lemmas.Bool.Decides.{nat_tests}
 
 -- ---- What holds in each way in which a call ends
 
@@ -65,10 +66,7 @@ alloc_refused state size align k none all =
 -- only a growing arena asks for chunks
 pub growing_of : (state : State) (size align k : ℕ) (e : ℕ × ℕ) → slice_get (asked state size align) k ≡ Some e → state.is_growing ≡ true
 unfolding asked
-growing_of state size align k e at = elim (cases_Bool state.is_growing) [
-  | inl growing ↦ growing
-  | inr still ↦ absurd (none-some e (rw still at at))
-]
+growing_of state size align k e at = grind (arith, nat_tests)
 
 pub entry_of : (state : State) (size align k : ℕ) (e : ℕ × ℕ) → state.is_growing ≡ true → IsTrue (is_power align)
     → slice_get (asked state size align) k ≡ Some e → IsEntry (next_base (floor_of state.chunks) align) size align e

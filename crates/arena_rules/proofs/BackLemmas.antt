@@ -1,13 +1,11 @@
 -- What remains of a state that goes back to a mark.
-use Rattle.std.proofs.Common.{◌≡◌, ℕ, zero, suc, ◌-◌, ◌%◌, ◌<◌, ◌≤◌, max, refl, sym, ap, subst, arith, eqb-true, leb-true, List, [], ◌∷◌, IsTrue, Bool, true, false, sum, map, length, drop, inl, inr}
-use Rattle.std.specs.Prelude.{◌==◌, ◌&&◌, nat_le, if◌then◌else◌}
-use Rattle.std.proofs.lemmas.Bool.{and_parts, or_right, cases_lt}
+use Rattle.std.proofs.Common.{◌≡◌, ℕ, zero, suc, ◌-◌, ◌%◌, ◌<◌, ◌≤◌, max, refl, sym, ap, subst, arith, List, [], ◌∷◌, IsTrue, Bool, true, false, sum, map, length, drop, inl, inr}
+use Rattle.std.proofs.lemmas.Bool.{or_right, cases_lt}
 use Rattle.std.proofs.lemmas.Bool.Decides.{nat_tests}
 use Rattle.std.proofs.lemmas.List.Sums.{sum_by-cons}
 use Rattle.arena_rules.specs.State.{State, Chunk, AreChunks, FitsKind, IsValid, start_of, cursor_of, top_of, floor_of, data_end, used_length, used_bytes, is_used_by, is_range_used}
 use Rattle.arena_rules.specs.Doubling.{IsDoubling}
 use Rattle.arena_rules.specs.Back.{Point, mark_of, first_chunks, raised, back, accepts}
-use Rattle.arena_rules.proofs.UsedLemmas.{within}
 
 -- ---- The oldest chunks
 
@@ -108,36 +106,13 @@ pub record IsMark (mark : Point) (state : State) : Type 0 where
   pub growing : mark.chunks ≡ 0 → state.is_growing ≡ true
 
 pub is_mark : (mark : Point) (state : State) → IsTrue (accepts mark state) → IsMark mark state
-is_mark mark state holds = go (mark.chunks == 0) refl holds
-  where
-    clash : mark.chunks ≡ 0 → (mark.chunks == 0) ≡ false → ⊥
-    clash same is = grind (arith, nat_tests)
-
-    go : (none : Bool) → (mark.chunks == 0) ≡ none
-        → IsTrue (if none then mark.cursor == 16 && state.is_growing
-        else nat_le mark.chunks (length state.chunks) && nat_le (start_of (first_chunks mark.chunks state.chunks)) mark.cursor
-        && nat_le mark.cursor (top_of (first_chunks mark.chunks state.chunks)) && mark.cursor % state.min_align == 0) → IsMark mark state
-    go true is holds =
-        let none : mark.chunks ≡ 0 = eqb-true _ _ is in
-        record {
-          aligned = λ some. absurd (omega (arith, none));
-          high = λ some. absurd (omega (arith, none));
-          low = λ some. absurd (omega (arith, none));
-          within = omega (arith, none);
-          growing = λ same. (and_parts (mark.cursor == 16) state.is_growing holds).1;
-        }
-    go false is holds =
-        let outer = and_parts _ (mark.cursor % state.min_align == 0) holds in
-        let next = and_parts _ (nat_le mark.cursor (top_of (first_chunks mark.chunks state.chunks))) outer.0 in
-        let first = and_parts (nat_le mark.chunks (length state.chunks))
-        (nat_le (start_of (first_chunks mark.chunks state.chunks)) mark.cursor) next.0 in
-        record {
-          aligned = λ some. eqb-true _ _ outer.1;
-          high = λ some. leb-true _ _ next.1;
-          low = λ some. leb-true _ _ first.1;
-          within = leb-true _ _ first.0;
-          growing = λ same. absurd (clash same is);
-        }
+is_mark mark state holds = record {
+  aligned = λ some. grind (arith, nat_tests);
+  high = λ some. grind (arith, nat_tests);
+  low = λ some. grind (arith, nat_tests);
+  within = grind (arith, nat_tests);
+  growing = λ none. grind (arith, nat_tests);
+}
 
 -- with no chunk left there is no cursor
 pub none_left : (chunks : List Chunk) (n : ℕ) → n ≡ 0 → first_chunks n chunks ≡ []
@@ -221,15 +196,4 @@ back_at_once state = ap (λ (l : List Chunk). record state { chunks = l }) (rw (
     same (newest ∷ older) = let is : max newest.cursor newest.cursor ≡ newest.cursor = omega arith in rw is refl
 
 pub own_accepted : (state : State) → IsValid state → IsTrue (accepts (mark_of state) state)
-own_accepted state valid = go state.is_growing state.min_align state.chunks valid.chunks valid.kind
-  where
-    go : (growing : Bool) (m : ℕ) (chunks : List Chunk) → AreChunks m chunks → FitsKind growing chunks
-        → IsTrue (accepts (record { chunks = length chunks; cursor = cursor_of chunks })
-        (record { min_align = m; is_growing = growing; generation = 0; chunks = chunks }))
-    go true m [] valid fits = refl
-    go false m [] valid fits = absurd fits
-    go growing m (newest ∷ older) valid fits =
-        let low : newest.base ≤ newest.cursor = valid.0.cursor_low in
-        let high : newest.cursor ≤ data_end newest = valid.0.cursor_high in
-        let aligned : newest.cursor % m ≡ 0 = valid.0.cursor_aligned in
-        rw (all_kept (newest ∷ older)) (grind (arith, nat_tests))
+own_accepted state valid = grind (arith, nat_tests, all_kept)

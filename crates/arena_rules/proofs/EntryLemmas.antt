@@ -1,10 +1,10 @@
 -- What is true of a chunk that is asked for.
-use Rattle.std.proofs.Common.{◌≡◌, ℕ, zero, suc, ◌+◌, ◌-◌, ◌/◌, ◌%◌, ◌^◌, ◌<◌, ◌≤◌, max, ap, sym, ◌∙◌, arith, IsTrue, Some, Option, List, [], ◌∷◌, inl, inr, leb-true, None, refl, true, false}
-use Rattle.std.specs.Prelude.{nat_le, if◌then◌else◌, slice_get}
+use Rattle.std.proofs.Common.{◌≡◌, ℕ, zero, suc, ◌+◌, ◌-◌, ◌/◌, ◌%◌, ◌^◌, ◌<◌, ◌≤◌, max, sym, ◌∙◌, arith, IsTrue, Some, Option, List, [], ◌∷◌, inl, inr, None, refl, true, false}
+use Rattle.std.specs.Prelude.{nat_le, slice_get}
 use Rattle.std.specs.List.{filter_map, cons_option, AllByRecursion}
 use Rattle.std.proofs.lemmas.Bool.{cases_lt}
 use Rattle.std.proofs.lemmas.Bool.Decides.{nat_tests}
-use Rattle.std.proofs.lemmas.Option.{cond_some, option_and_then_some, same_Some}
+use Rattle.std.proofs.lemmas.Option.{same_Some}
 use Rattle.arena_rules.specs.Rounding.{up, is_power}
 use Rattle.arena_rules.specs.Search.{halves, possible, entries, size_for, rounded_size, power_at_least, chunk_align}
 use Rattle.arena_rules.proofs.RoundingLemmas.{up_ge, up_mod, power_positive, power_multiple, max_power, pow_power, power_from, power_mod, layout_fits}
@@ -48,13 +48,7 @@ entry_tried base size align first least k e found =
 pub possible_is : (base size align tried : ℕ) (e : ℕ × ℕ) → possible base size align tried ≡ Some e
     → (size_for tried size align ≡ Some e.1) × (e.0 ≡ base) × (e.0 + e.1 + 48 ≤ 2 ^ 64 - 1)
 unfolding possible
-possible_is base size align tried e is =
-    option_and_then_some {B = ℕ × ℕ} (λ n. if nat_le (base + n + 48) (2 ^ 64 - 1) then Some (base, n) else None)
-    (size_for tried size align) e is (λ n sized made.
-    let tested = cond_some (nat_le (base + n + 48) (2 ^ 64 - 1)) (base, n) e made in
-    let first : base ≡ e.0 = ap (λ (x : ℕ × ℕ). x.0) tested.1 in
-    let second : n ≡ e.1 = ap (λ (x : ℕ × ℕ). x.1) tested.1 in
-    (sized ∙ ap Some second, sym first, omega (arith, leb-true _ _ tested.0)))
+possible_is base size align tried e is = grind (arith, nat_tests)
 
 pub record IsEntry (base size align : ℕ) (e : ℕ × ℕ) : Type 0 where
   pub based : e.0 ≡ base

@@ -1,6 +1,5 @@
 -- What becomes of a block that is resized, case by case.
-use Rattle.std.proofs.Common.{◌≡◌, ℕ, ◌+◌, ◌*◌, ◌%◌, ◌<◌, ◌≤◌, ◌⊎◌, refl, arith, true, false, Some, None, eq-eqb}
-use Rattle.std.specs.Prelude.{nat_le, ◌==◌, ◌&&◌}
+use Rattle.std.proofs.Common.{◌≡◌, ℕ, ◌+◌, ◌*◌, ◌%◌, ◌<◌, ◌≤◌, ◌⊎◌, arith, true, false, Some, None}
 use Rattle.std.proofs.lemmas.Bool.Decides.{nat_tests}
 use Rattle.arena_rules.specs.Rounding.{is_layout}
 use Rattle.arena_rules.specs.State.{State, cursor_of}
@@ -39,21 +38,15 @@ module _ (state : State) (p size align new_size new_align : ℕ) where
     pub low : new_align ≤ align
     pub at : p ≡ cursor_of state.chunks
 
-  here_test : IsHere → (nat_le new_align align && p == cursor_of state.chunks) ≡ true
-  here_test is =
-      let low = is.low in
-      let lower : nat_le new_align align ≡ true = grind (arith, nat_tests) in
-      rw (lower, eq-eqb _ _ is.at) refl
-
   -- there it is allocated again without room below it, moves down with room, or is refused if its growth is no layout
   pub grows_full : IsHere → is_layout (growth state size new_size) align ≡ true → place state (growth state size new_size) align ≡ None
       → growing state p size align new_size new_align ≡ Anew
-  grows_full is fine none = let here = here_test is in rw (here, fine, none) refl
+  grows_full is fine none = grind (arith, nat_tests, is)
 
   pub grows_down : (q : ℕ) → IsHere → is_layout (growth state size new_size) align ≡ true
       → place state (growth state size new_size) align ≡ Some q
       → growing state p size align new_size new_align ≡ Moves q
-  grows_down q is fine found = let here = here_test is in rw (here, fine, found) refl
+  grows_down q is fine found = grind (arith, nat_tests, is)
 
   pub grows_not : IsHere → is_layout (growth state size new_size) align ≡ false → growing state p size align new_size new_align ≡ Refused
-  grows_not is large = let here = here_test is in rw (here, large) refl
+  grows_not is large = grind (arith, nat_tests, is)

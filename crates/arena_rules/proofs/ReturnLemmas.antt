@@ -1,6 +1,5 @@
 -- Blocks that are given back.
-use Rattle.std.proofs.Common.{◌≡◌, ℕ, ◌+◌, ◌<◌, ◌≤◌, inl, inr, refl, ap, sym, subst, ◌∙◌, arith, List, [], IsTrue, Bool, eq-eqb, ne_eqb, sum, map}
-use Rattle.std.specs.Prelude.{◌==◌, ◌||◌}
+use Rattle.std.proofs.Common.{◌≡◌, ℕ, ◌+◌, ◌<◌, ◌≤◌, inl, inr, refl, ap, sym, subst, ◌∙◌, arith, List, IsTrue, eq-eqb, ne_eqb, sum, map}
 use Rattle.std.proofs.lemmas.Bool.{cases_eq, cases_lt}
 use Rattle.std.proofs.lemmas.Bool.Decides.{nat_tests}
 use Rattle.arena_rules.specs.Rounding.{up}
@@ -84,10 +83,7 @@ is_return state p size q valid at fits is =
 
 pub used_filled : (state : State) (place : Place) → 0 < place.size → IsTrue (is_place_used state place)
     → IsTrue (is_range_used state.chunks place.addr place.size)
-used_filled state place some used = go (is_range_used state.chunks place.addr place.size) used
-  where
-    go : (b : Bool) → IsTrue (place.size == 0 || b) → IsTrue b
-    go b either = grind (arith, nat_tests)
+used_filled state place some used = grind (arith, nat_tests)
 
 -- a block at the cursor ends in the newest chunk
 pub block_end : (state : State) (block : Place) → IsValid state → IsTrue (is_place_used state block) → block.addr ≡ cursor_of state.chunks

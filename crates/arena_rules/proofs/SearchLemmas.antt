@@ -2,9 +2,8 @@
 use Rattle.std.proofs.Common.{◌≡◌, ◌∙◌, ℕ, zero, suc, ◌+◌, ◌-◌, ◌*◌, ◌/◌, ◌^◌, ◌<◌, ◌≤◌, max, ap, sym, refl, arith, IsTrue, Some, None, Option, List, [], ◌∷◌, length, inl, inr, true, cond, leb}
 use Rattle.std.proofs.lemmas.Bool.{cases_lt}
 use Rattle.std.proofs.lemmas.Bool.Decides.{nat_tests}
-use Rattle.std.proofs.lemmas.Option.{cond_some, option_and_then_some}
 use Rattle.std.proofs.Math.Nat.{pow-suc}
-use Rattle.std.specs.Prelude.{nat_le, if◌then◌else◌}
+use Rattle.std.specs.Prelude.{nat_le}
 use Rattle.std.specs.List.{filter_map, cons_option}
 use Rattle.arena_rules.specs.Rounding.{up, is_layout}
 use Rattle.arena_rules.specs.Search.{halves, possible, entries, asked_above, size_for, rounded_size, chunk_align}
@@ -96,11 +95,7 @@ possible_none base size align tried is = rw (← is) refl
 pub size_is : (tried size align bytes : ℕ) → size_for tried size align ≡ Some bytes
     → (rounded_size (max tried (up size (chunk_align align))) ≡ Some bytes) × IsTrue (is_layout (bytes + 48) (chunk_align align))
 unfolding size_for
-size_is tried size align bytes is =
-    option_and_then_some (λ n. if is_layout (n + 48) (chunk_align align) then Some n else None)
-    (rounded_size (max tried (up size (chunk_align align)))) bytes is (λ n rounded made.
-    let tested = cond_some (is_layout (n + 48) (chunk_align align)) n bytes made in
-    (rounded ∙ ap Some tested.1, rw (← tested.1) tested.0))
+size_is tried size align bytes is = grind (arith, nat_tests)
 
 pub size_valid : (tried size align bytes : ℕ) → Some bytes ≡ size_for tried size align → IsTrue (is_layout (bytes + 48) (chunk_align align))
 size_valid tried size align bytes is = (size_is tried size align bytes (sym is)).1

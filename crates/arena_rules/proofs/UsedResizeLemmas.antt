@@ -1,12 +1,10 @@
 -- How many bytes are used after a block was resized or given back.
-use Rattle.std.proofs.Common.{◌≡◌, ℕ, ◌+◌, ◌-◌, ◌*◌, ◌%◌, ◌<◌, ◌≤◌, max, refl, sym, ap, ◌∙◌, arith, Option, Some, None, IsTrue, eqb-true, leb-true, inl, inr}
-use Rattle.std.specs.Prelude.{◌==◌, ◌&&◌, nat_le, nat_lt}
-use Rattle.std.proofs.lemmas.Bool.{and_parts, cond_both, cases_lt}
-use Rattle.std.proofs.lemmas.Option.{cond_some}
+use Rattle.std.proofs.Common.{◌≡◌, ℕ, ◌+◌, ◌-◌, ◌*◌, ◌%◌, ◌<◌, ◌≤◌, max, refl, ap, ◌∙◌, arith, Some, IsTrue, inl, inr}
+use Rattle.std.proofs.lemmas.Bool.{cases_lt}
 use Rattle.arena_rules.specs.Rounding.{up, is_power, is_layout}
 use Rattle.arena_rules.specs.State.{State, IsValid, start_of, cursor_of, top_of, with_cursor, used_bytes, is_place_used}
 use Rattle.arena_rules.specs.Search.{place}
-use Rattle.arena_rules.specs.Moves.{Outcome, Resizing, alloc, growth, growing, grow, shrink_step, shrinking, shrink, resize, down_to, placed, stays, fails, unasked, dealloc, set_cursor}
+use Rattle.arena_rules.specs.Moves.{Outcome, Resizing, alloc, growth, growing, grow, shrink_step, shrinking, shrink, resize, dealloc, set_cursor}
 use Rattle.arena_rules.specs.Moves.Resizing.{Stays, Moves, Anew, Refused}
 use Rattle.arena_rules.specs.Blocks.{padded_size}
 use Rattle.arena_rules.specs.Used.{taken, unit_of}
@@ -23,20 +21,17 @@ use Rattle.std.proofs.lemmas.Bool.Decides.{nat_tests}
 -- a block that moves leaves the cursor at its new address
 pub resize_moves : (state : State) (way : Resizing) (p size align k q : ℕ) (outcome : Outcome) → way ≡ Moves q
     → resize way state p size align k ≡ Some outcome → outcome.state ≡ with_cursor q state
-resize_moves state way p size align k q outcome is step = let at : unasked k (placed state q) ≡ Some outcome = rw is at step in
-    sym (ap (λ (o : Outcome). o.state) (cond_some (k == 0) (placed state q) outcome at).1)
+resize_moves state way p size align k q outcome is step = grind (arith, nat_tests)
 
 -- a block that stays leaves the state as it was
 pub resize_stays : (state : State) (way : Resizing) (p size align k : ℕ) (outcome : Outcome) → way ≡ Stays
     → resize way state p size align k ≡ Some outcome → outcome.state ≡ state
-resize_stays state way p size align k outcome is step = let at : unasked k (stays state p) ≡ Some outcome = rw is at step in
-    sym (ap (λ (o : Outcome). o.state) (cond_some (k == 0) (stays state p) outcome at).1)
+resize_stays state way p size align k outcome is step = grind (arith, nat_tests)
 
 -- so does a call that is refused
 pub resize_refused : (state : State) (way : Resizing) (p size align k : ℕ) (outcome : Outcome) → way ≡ Refused
     → resize way state p size align k ≡ Some outcome → outcome.state ≡ state
-resize_refused state way p size align k outcome is step = let at : unasked k (fails state) ≡ Some outcome = rw is at step in
-    sym (ap (λ (o : Outcome). o.state) (cond_some (k == 0) (fails state) outcome at).1)
+resize_refused state way p size align k outcome is step = grind (arith, nat_tests)
 
 -- a block that is placed again is an allocation
 pub resize_anew : (state : State) (way : Resizing) (p size align k : ℕ) → way ≡ Anew
@@ -55,23 +50,14 @@ pub record IsGrowth (state : State) (p size align new_size q : ℕ) : Type 0 whe
 pub is_growth : (state : State) (p size align new_size new_align q : ℕ) → IsValid state
     → growing state p size align new_size new_align ≡ Moves q
     → IsGrowth state p size align new_size q
-is_growth state p size align new_size new_align q valid =
-    let Gives : Resizing → Type 0 = λ (way : Resizing). way ≡ Moves q → IsGrowth state p size align new_size q in
-    cond_both (nat_le new_align align && p == cursor_of state.chunks) _ _ Gives
-    (λ here. cond_both (is_layout (growth state size new_size) align) _ _ Gives
-    (λ fine. go (place state (growth state size new_size) align) refl (eqb-true _ _ (and_parts _ _ here).1)
-    (layout_power (growth state size new_size) align fine))
-    (λ large is. cc))
-    (λ away is. cc)
-  where
-    go : (o : Option ℕ) → place state (growth state size new_size) align ≡ o → p ≡ cursor_of state.chunks → IsTrue (is_power align)
-        → down_to o ≡ Moves q
-        → IsGrowth state p size align new_size q
-    go None none at power is = cc
-    go (Some r) found at power is = let same : r ≡ q = cc in record {
-      at = at;
+is_growth state p size align new_size new_align q valid is =
+    let found : place state (growth state size new_size) align ≡ Some q = grind (arith, nat_tests) in
+    let fine : IsTrue (is_layout (growth state size new_size) align) = grind (arith, nat_tests) in
+    let power = layout_power (growth state size new_size) align fine in
+    record {
+      at = grind (arith, nat_tests);
       place = is_place (start_of state.chunks) (cursor_of state.chunks) (growth state size new_size) align state.min_align q
-          (start_positive state valid) power valid.min_align (found ∙ ap Some same);
+          (start_positive state valid) power valid.min_align found;
       power = power;
     }
 
@@ -174,14 +160,8 @@ pub record IsShrinkage (state : State) (p size new_size new_align q : ℕ) : Typ
 -- what is true of a block that shrinks up to q
 pub is_shrinkage : (state : State) (p size align new_size new_align q : ℕ) → shrinking state p size align new_size new_align ≡ Moves q
     → IsShrinkage state p size new_size new_align q
-is_shrinkage state p size align new_size new_align q =
-    let Gives : Resizing → Type 0 = λ (way : Resizing). way ≡ Moves q → IsShrinkage state p size new_size new_align q in
-    cond_both (nat_lt align new_align) _ _ Gives
-    (λ higher. cond_both (p % new_align == 0) _ _ Gives (λ at is. cc) (λ away is. cc))
-    (λ lower. cond_both (p == cursor_of state.chunks && nat_le size (2 * shrink_step state size new_size new_align)) _ _ Gives
-    (λ both is. let parts = and_parts _ _ both in
-    record { at = eqb-true _ _ parts.0; is = cc; half = leb-true _ _ parts.1 })
-    (λ other is. cc))
+is_shrinkage state p size align new_size new_align q is =
+    record { at = grind (arith, nat_tests); is = grind (arith, nat_tests); half = grind (arith, nat_tests) }
 
 module _ (state : State) (p size align new_size new_align q : ℕ) (is : shrinking state p size align new_size new_align ≡ Moves q) where
   shrinks : IsShrinkage state p size new_size new_align q
