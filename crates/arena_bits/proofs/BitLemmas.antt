@@ -32,14 +32,11 @@ module _ (words : List ℕ) (n : ℕ) (within : n / 64 < length words) where
 
   -- A bit is set, and cleared.
   pub bits_raised : bits_of (set words (n / 64) (bit_or (get_or words (n / 64) 0) (1 * 2 ^ (n % 64) % 2 ^ 64))) ≡ with_bit (bits_of words) n
-  bits_raised = bits_replaced _ (with_bit (bits_of words) n)
-      (rw (bit_at_set_same w64 (get_or words (n / 64) 0) (n % 64) (omega arith)) (grind (arith, nat_tests)))
-      (λ j small other. bit_at_set_other w64 (get_or words (n / 64) 0) (n % 64) (omega arith) j other)
-      (λ i other. grind (arith, nat_tests))
+  bits_raised = bits_replaced _ _ (rw (bit_at_set_same w64 (get_or words (n / 64) 0) (n % 64) (omega arith)) (grind (arith, nat_tests)))
+      (λ j small other. bit_at_set_other w64 (get_or words (n / 64) 0) (n % 64) (omega arith) j other) (λ i other. grind (arith, nat_tests))
 
   pub bits_lowered : bits_of (set words (n / 64) (bit_and (get_or words (n / 64) 0) (bit_not w64 (1 * 2 ^ (n % 64) % 2 ^ 64))))
       ≡ without_bit (bits_of words) n
-  bits_lowered = bits_replaced _ (without_bit (bits_of words) n)
-      (rw (bit_at_clear_same w64 (get_or words (n / 64) 0) (n % 64) (omega arith)) (grind (arith, nat_tests)))
+  bits_lowered = bits_replaced _ _ (rw (bit_at_clear_same w64 (get_or words (n / 64) 0) (n % 64) (omega arith)) (grind (arith, nat_tests)))
       (λ j small other. bit_at_clear_other w64 (get_or words (n / 64) 0) (n % 64) (omega arith) j small other)
       (λ i other. grind (arith, nat_tests))

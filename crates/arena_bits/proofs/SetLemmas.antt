@@ -31,7 +31,6 @@ pub word_edited : (old new : View) (s : BitSet) (n : ℕ) (f : ℕ → ℕ) (cha
     → bits_of (set (words_of old.memory s) (n / 64) (f (get_or (words_of old.memory s) (n / 64) 0))) ≡ changed)
     → BecomesSet old new s changed
 word_edited old new s n f changed held within source edits is =
-    becomes_set old new s changed (n / 64 * 8) edits.list edits.writes source held
-    (ap bits_of (word_changed old.memory new.memory s.words.block s.words.length (n / 64) f edits (omega arith)
-    (omega (arith, held.place.of_size)))
-    ∙ is (omega (arith, length-words s.words.length (bytes_of old.memory s.words.block))))
+    becomes_set _ _ _ _ _ _ edits.writes source held (ap bits_of
+    (word_changed _ _ _ s.words.length (n / 64) f edits (omega arith) (omega (arith, held.place.of_size))) ∙ is
+    (omega (arith, length-words s.words.length (bytes_of old.memory s.words.block))))

@@ -97,8 +97,7 @@ pub becomes_empty : (old new : View) (s : BitSet) → IsSetIn old.memory s → n
     → EditsBlock old.memory new.memory s.words.block 0 s.words.block.size (λ before after. after ≡ replicate (length before) 0)
     → BecomesSet old new s nothing
 becomes_empty old new s held source edits =
-    becomes_set old new s nothing 0 edits.list edits.writes source held
-    (cleared old.memory new.memory s.words.block s.words.length _ held.place.of_size refl edits)
+    becomes_set _ _ _ _ _ _ edits.writes source held (cleared _ _ _ s.words.length _ held.place.of_size refl edits)
 
 -- ---- New sets
 

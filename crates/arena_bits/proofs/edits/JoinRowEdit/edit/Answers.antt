@@ -4,5 +4,4 @@ use Rattle.arena_bits.proofs.edits.JoinRowEdit.edit.Goals as goal
 
 pub words-preserved : goal.words-preserved
 words-preserved g c =
-    joins_more g.row.N c.args.place.now c.words.place c.args.self.now.row c.edit.new.place c.words.i (omega arith) c.words.invariant
-    c.edit.ensures
+    joins_more g.row.N c.args.place.now c.words.place _ _ _ (omega arith) c.words.invariant c.edit.ensures

@@ -4,5 +4,4 @@ use Rattle.arena_bits.proofs.set.BitSet.new_in.Goals as goal
 
 pub returns : goal.returns
 returns g c =
-    new_set c.args.a.now c.place_words.new.a _ c.args.max_bit_count _ c.in_ok-block.block (omega arith) c.in_ok-block.ensures
-    c.write_with.ensures.edits c.write_with.ensures.source
+    new_set _ c.place_words.new.a _ _ _ _ (omega arith) c.in_ok-block.ensures c.write_with.ensures.edits c.write_with.ensures.source
