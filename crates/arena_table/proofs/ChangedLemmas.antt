@@ -31,8 +31,7 @@ module _ {K V S : Type 0} (k : Kind K V S) (old new : Memory) (hasher : S) (t : 
   shape = handle-shape k.keys k.values old t keys_small values_small held.handle some
 
   changes : ChangesValue k.keys k.values t.slots (bytes_of old t.block) (bytes_of new t.block) at value
-  changes = edited-whole old new t.block (λ before after. ChangesValue k.keys k.values t.slots before after at value) (λ xs ys c. c.long)
-      edits
+  changes = edited-whole _ _ _ _ (λ xs ys c. c.long) edits
 
   -- the slots then
   pub changed-slots : slots_in k.keys k.values new t ≡ set (slots_in k.keys k.values old t) at (Some (x.0, value))

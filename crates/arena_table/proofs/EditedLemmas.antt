@@ -48,10 +48,9 @@ module _ {K V S : Type 0} (k : Kind K V S) (old new : Memory) (hasher : S) (t : 
       → EditsBlock old new t.block 0 t.block.size (λ xs ys. ClosesGap k.keys k.values t.slots xs ys at)
       → IsTableIn k new hasher t × Closed (slots_in k.keys k.values old t) (slots_in k.keys k.values new t) at
   in-close at x free there edits =
-      let closes = edited-whole old new t.block (λ xs ys. ClosesGap k.keys k.values t.slots xs ys at) (λ xs ys p. p.long) edits in
+      let closes = edited-whole _ _ _ _ (λ xs ys p. p.long) edits in
       let r = closes.closes (pair_hash k old hasher) x held.table there free in (
-        in-edited k old new hasher t held edits.writes.frame edits.writes.state r.0
-            (λ y h. let i = r.1.only y h in held.texts y (i.0, i.2)),
+        in-edited _ _ _ _ _ held edits.writes.frame edits.writes.state r.0 (λ y h. let i = r.1.only y h in held.texts y (i.0, i.2)),
         r.1,
       )
 

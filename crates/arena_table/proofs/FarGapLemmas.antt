@@ -59,8 +59,7 @@ module _ {K V S : Type 0} (k : Kind K V S) (old new : Memory) (hasher : S) (t : 
         (edits : EditsBlock old new t.block 0 t.block.size (λ xs ys. CopiesSlot k.keys k.values t.slots xs ys next gap mark)) where
       sets : SetsSlot k.keys k.values t.slots (bytes_of old t.block) (bytes_of new t.block) gap mark (Some x)
       sets =
-          let copies = edited-whole old new t.block (λ xs ys. CopiesSlot k.keys k.values t.slots xs ys next gap mark) (λ xs ys p. p.long)
-          edits in
+          let copies = edited-whole _ _ _ _ (λ xs ys p. p.long) edits in
           copies.sets x away.there (omega (arith, marked, mark-some (pair_hash k old hasher x) d))
 
       on : Closing home t.slots start from (steps + 1) after next
@@ -84,15 +83,13 @@ module _ {K V S : Type 0} (k : Kind K V S) (old new : Memory) (hasher : S) (t : 
           spot-before t.slots gap (spot t.slots (home x) d) within (spot-less t.slots (home x) d (homes x) low)
           (sym next-is ∙ (away.place ∙ sym (spot-next t.slots (home x) d (homes x) low))) in
           let ordered = subst (λ q. IsOrdered home t.slots q) sets.slots on.ordered in
-          in-edited k old new hasher t held edits.writes.frame edits.writes.state
-          (table-put k.keys k.values (pair_hash k old hasher) t.slots some (bytes_of old t.block) (bytes_of new t.block)
-          (handle-shape k.keys k.values old t small few held.handle some) held.table gap x d mark within low here marked sets ordered)
-          texts
+          in-edited _ _ _ _ _ held edits.writes.frame edits.writes.state
+          (table-put _ _ _ _ some _ _ (handle-shape _ _ _ _ small few held.handle some) held.table _ x d _ within low here marked sets
+          ordered) texts
 
       pub far-closing : Closing (λ p. home_of t.slots (pair_hash k new hasher p)) t.slots start from (steps + 1) after next
       far-closing =
-          closing-agree home (λ p. home_of t.slots (pair_hash k new hasher p)) t.slots start from (steps + 1) after next
-          (λ y h. ap (home_of t.slots) (hash-stays k old new hasher t.block edits.writes.frame y (texts y h))) on
+          closing-agree _ _ _ _ _ _ _ _ (λ y h. ap (home_of t.slots) (hash-stays k _ _ hasher _ edits.writes.frame y (texts _ h))) on
 
     -- No pair moves back from after the gap: its mark was cleared.
     module _ (low : slice_index (bytes_of old t.block) next < 32)

@@ -38,8 +38,7 @@ freed-slots keys values old new t handle writes =
     (let le : 1 ≤ slot_size keys.SIZE values.SIZE = omega arith in le) in
     let within : t.slots ≤ t.block.size = omega (arith, handle.place.of_size, more) in
     let front : bytes_from (image new) t.block.addr t.slots ≡ replicate t.slots 0 =
-    ap (λ n. bytes_from (image new) t.block.addr n) (sym (length-replicate t.slots 0)) ∙ wrote_first old new t.block (replicate t.slots 0)
-    writes in
+    ap (λ n. bytes_from (image new) t.block.addr n) (sym (length-replicate t.slots 0)) ∙ wrote_first _ _ _ _ writes in
     free-slots keys values t.slots (bytes_of new t.block) (take_bytes (image new) t.block.addr t.block.size t.slots within ∙ front)
 
 -- Free slots are in order,

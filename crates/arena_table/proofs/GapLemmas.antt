@@ -64,10 +64,6 @@ module _ (n : ℕ) (bytes : List ℕ) (start : ℕ) (begun : start < n) where
         zero-or : (m : ℕ) → (m ≡ 0) ⊎ (0 < m)
         zero-or m = grind arith
 
-  -- a whole round was seen
-  pub near-whole : (k gap : ℕ) → n ≤ k → NearTo n bytes start k gap → IsNear n bytes start
-  near-whole k gap all s = record { near = λ e m run. s.near e (omega arith) m }
-
 -- ---- The gap
 
 module _ {K V : Type 0} (keys : Ghosts K) (values : Ghosts V) (n start : ℕ) (from : List ℕ) where
@@ -118,7 +114,7 @@ module _ {K V : Type 0} (keys : Ghosts K) (values : Ghosts V) (n start : ℕ) (f
       pub gap-on : 32 ≤ get_or bytes next 0 → get_or bytes next 0 < 240 → IsShape keys values n new
           → CopiesSlot keys values n bytes new next gap (get_or bytes next 0 - 16) → Gap (k + 1) new next
       gap-on high low shape copies =
-          let y = slot-taken keys values n bytes s.shape next next-within (omega arith) in
+          let y = slot-taken _ _ _ _ s.shape next next-within (omega arith) in
           let sets = copies.sets y.0 y.1 (omega arith) in
           record {
             shape = shape;
@@ -140,15 +136,14 @@ module _ {K V : Type 0} (keys : Ghosts K) (values : Ghosts V) (n start : ℕ) (f
                 let w = s.walk hash x table there room in
                 let slots = slots_of keys values n bytes in
                 let home : K × V → ℕ = λ p. home_of n (hash p) in
-                let away = away-of home n (homes hash) slots next y.0 (slots-long keys values n bytes s.shape) y.1 in
+                let away = away-of home _ (homes hash) slots next y.0 (slots-long _ _ _ _ s.shape) y.1 in
                 let mark : get_or bytes next 0 ≡ mark_of (hash y.0) away.0 = w.1.marks next away.0 y.0 away.1 in
-                let far : away.0 ≡ away.0 - 1 + 1 = mark-away (hash y.0) away.0 (omega (arith, mark, high)) in
+                let far : away.0 ≡ away.0 - 1 + 1 = mark-away (hash y.0) _ (omega (arith, mark, high)) in
                 let a : IsAway home n slots (spot n gap 1) y.0 (away.0 - 1 + 1) = subst (λ d. IsAway home n slots (spot n gap 1) y.0 d) far
                 (subst (λ p. IsAway home n slots p y.0 away.0) next-is away.1) in
-                let on = closing-pull home n (homes hash) start (slots_of keys values n from) k slots gap begun w.0 room y.0 (away.0 - 1)
-                a in
+                let on = closing-pull _ _ (homes hash) _ _ _ _ _ begun w.0 room _ (away.0 - 1) a in
                 let low-d : away.0 - 1 < n = omega (arith, a.less) in
-                let here : gap ≡ spot n (home y.0) (away.0 - 1) = spot-before n gap (spot n (home y.0) (away.0 - 1)) s.within
+                let here : gap ≡ spot n (home y.0) (away.0 - 1) = spot-before n _ _ s.within
                 (spot-less n (home y.0) (away.0 - 1) (homes hash y.0) low-d)
                 (a.place ∙ sym (spot-next n (home y.0) (away.0 - 1) (homes hash y.0) low-d)) in
                 let mark' : get_or bytes next 0 ≡ mark_of (hash y.0) (away.0 - 1 + 1) = mark ∙ ap (mark_of (hash y.0)) far in
@@ -156,8 +151,7 @@ module _ {K V : Type 0} (keys : Ghosts K) (values : Ghosts V) (n start : ℕ) (f
                 ap (λ m. m - 16) mark' ∙ mark-back (hash y.0) (away.0 - 1) (subst (λ m. m < 240) mark' low) in (
                   subst (λ p. Closing home n start (slots_of keys values n from) (k + 1) (slots_of keys values n new) p) (sym next-is)
                       (subst (λ q. Closing home n start (slots_of keys values n from) (k + 1) q (spot n gap 1)) (sym sets.slots) on),
-                  table-put keys values hash n some bytes new s.shape w.1 gap y.0 (away.0 - 1) (get_or bytes next 0 - 16) s.within low-d
-                      here less' sets on.ordered,
+                  table-put _ _ _ _ some _ _ s.shape w.1 _ y.0 (away.0 - 1) _ s.within low-d here less' sets on.ordered,
                 );
           }
 
@@ -193,7 +187,6 @@ module _ {K V : Type 0} (keys : Ghosts K) (values : Ghosts V) (n start : ℕ) (f
           let w = s.walk hash x table there room in
           absurd (omega (
             arith,
-            closing-less (λ p. home_of n (hash p)) n (homes hash) start (slots_of keys values n from) k
-                (slots_of keys values n bytes) gap begun w.0 room,
+            closing-less _ _ (homes hash) _ _ _ _ _ begun w.0 room,
           ));
     }

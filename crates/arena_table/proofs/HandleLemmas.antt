@@ -1,5 +1,7 @@
 -- Tables in an arena.
-use Rattle.std.proofs.Common.{◌≡◌, ℕ, ◌+◌, List, [], ◌∷◌, sym, ap, subst, ◌^◌, ◌<◌, ◌≤◌, inl, inr, length, ◌∙◌, arith}
+use Rattle.std.proofs.Common.{◌≡◌, ℕ, ◌+◌, Some, List, [], ◌∷◌, sym, ap, subst, ◌^◌, ◌<◌, ◌≤◌, inl, inr, length, ◌∙◌, arith}
+use Rattle.std.proofs.Math.Nat.{mod-lt}
+use Rattle.std.proofs.lemmas.Option.{slice_get_within}
 use Rattle.arena_chunks.specs.Memory.{Memory, image, bytes_from}
 use Rattle.arena_chunks.specs.BlockCalls.{EditsBlock}
 use Rattle.arena_chunks.specs.Frame.{Frame, Stays}
@@ -13,8 +15,9 @@ use Rattle.hash_ring.specs.Marks.{home_of, mark_of}
 use Rattle.hash_ring.proofs.Passing.{AreMarked}
 use Rattle.arena_table.specs.Tables.{pair_hash, slots_of, slots_in, IsShape, IsTable, IsTableHandle, IsTableIn, IsTextBeside}
 use Rattle.arena_table.specs.Contents.{Kind}
+use Rattle.arena_table.proofs.SlotLemmas.{slot-taken}
 use Rattle.arena_table.proofs.TableLemmas.{table-marked}
-use Rattle.std.specs.Prelude.{slice_index}
+use Rattle.std.specs.Prelude.{slice_get, slice_index}
 use Rattle.arena_table.specs.declared.table.Table.{Table}
 
 -- the block of a table with slots has its marks and pairs
@@ -34,8 +37,23 @@ pub in-marked : {K V S : Type 0} (k : Kind K V S) (memory : Memory) (hasher : S)
     → (some : 0 < t.slots) → IsTableIn k memory hasher t
     → AreMarked (pair_hash k memory hasher) t.slots some (slots_in k.keys k.values memory t) (λ i. slice_index (bytes_of memory t.block) i)
 in-marked k memory hasher t small few some held =
-    table-marked k.keys k.values (pair_hash k memory hasher) t.slots some (bytes_of memory t.block)
-    (handle-shape k.keys k.values memory t small few held.handle some) held.table
+    table-marked _ _ _ _ some _ (handle-shape _ _ _ _ small few held.handle some) held.table
+
+module _ {K V S : Type 0} {k : Kind K V S} {memory : Memory} {hasher : S} {t : Table K V} (held : IsTableIn k memory hasher t) where
+  -- homes are slots,
+  pub held-homes : 0 < t.slots → (p : K × V) → home_of t.slots (pair_hash k memory hasher p) < t.slots
+  held-homes some p = mod-lt (pair_hash k memory hasher p) some
+
+  -- and so is the place of a pair
+  pub held-within : (i : ℕ) (x : K × V) → slice_get (slots_in k.keys k.values memory t) i ≡ Some (Some x) → i < t.slots
+  held-within i x there =
+      omega (arith, held.table.ordered.long, slice_get_within (slots_in k.keys k.values memory t) i (Some x) there)
+
+  -- A slot that has a mark holds a pair.
+  pub held-taken : k.keys.SIZE ≤ 2 ^ 24 → k.values.SIZE ≤ 2 ^ 24 → (i : ℕ) → i < t.slots → 0 < slice_index (bytes_of memory t.block) i
+      → (x : K × V) × (slice_get (slots_in k.keys k.values memory t) i ≡ Some (Some x))
+  held-taken small few i within marked =
+      slot-taken k.keys k.values t.slots _ (handle-shape _ _ _ _ small few held.handle (omega arith)) i within marked
 
 -- ---- Blocks that are changed
 
@@ -58,11 +76,9 @@ pub table-agree : {K V : Type 0} (keys : Ghosts K) (values : Ghosts V) (one othe
     → ((x : K × V) → Has (slots_of keys values n bytes) x → other x ≡ one x) → IsTable keys values one n bytes
     → IsTable keys values other n bytes
 table-agree keys values one other n bytes same table = record {
-  ordered = ordered-agree (λ p. home_of n (one p)) (λ p. home_of n (other p)) n (slots_of keys values n bytes)
-      (λ x h. ap (home_of n) (same x h)) table.ordered;
+  ordered = ordered-agree _ (λ p. home_of n (other p)) _ _ (λ x h. ap (home_of n) (same x h)) table.ordered;
   marks = λ i d x a.
-      let back = away-agree (λ p. home_of n (other p)) (λ p. home_of n (one p)) n (slots_of keys values n bytes)
-      (λ y h. ap (home_of n) (sym (same y h))) i x d a in
+      let back = away-agree _ (λ p. home_of n (one p)) _ _ (λ y h. ap (home_of n) (sym (same y h))) _ _ _ a in
       table.marks i d x back ∙ ap (λ h. mark_of h d) (sym (same x (i, a.there)));
 }
 
@@ -71,8 +87,7 @@ pub hash-stays : {K V S : Type 0} (k : Kind K V S) (old new : Memory) (hasher : 
     → Frame old new (block ∷ []) (block ∷ []) → (x : K × V)
     → IsTextBeside k.key old block x.0 → pair_hash k new hasher x ≡ pair_hash k old hasher x
 hash-stays k old new hasher block frame x text =
-    ap (λ bs. k.hash hasher (k.key.content x.0 bs)) (frame_keeps old new (block ∷ []) (block ∷ []) (k.key.text x.0) frame text.readable
-    (text.apart, tt)).bytes
+    ap (λ bs. k.hash hasher (k.key.content x.0 bs)) (frame_keeps _ _ _ _ (k.key.text x.0) frame text.readable (text.apart, tt)).bytes
 
 -- A table whose block was changed: its keys' texts are unchanged.
 pub in-edited : {K V S : Type 0} (k : Kind K V S) (old new : Memory) (hasher : S) (t : Table K V) → IsTableIn k old hasher t
@@ -81,16 +96,10 @@ pub in-edited : {K V S : Type 0} (k : Kind K V S) (old new : Memory) (hasher : S
     → ((x : K × V) → Has (slots_in k.keys k.values new t) x → IsTextBeside k.key old t.block x.0) → IsTableIn k new hasher t
 in-edited {K} {V} k old new hasher t held frame state table texts = record {
   handle = record {
-    place = record {
-      readable = rw state held.handle.place.readable;
-      of_size = held.handle.place.of_size;
-      of_align =
-          held.handle.place.of_align;
-    };
+    place = rw state held.handle.place;
     ring = held.handle.ring;
   };
-  table = table-agree k.keys k.values (pair_hash k old hasher) (pair_hash k new hasher) t.slots (bytes_of new t.block)
-      (λ x h. hash-stays k old new hasher t.block frame x (texts x h)) table;
+  table = table-agree _ _ _ (pair_hash k new hasher) _ _ (λ x h. hash-stays k _ _ hasher _ frame x (texts x h)) table;
   texts = λ x h. record { readable = (stays x h).readable; apart = (stays x h).apart.0 };
 }
   where

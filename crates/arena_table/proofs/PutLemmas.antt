@@ -41,8 +41,7 @@ module _ {K V : Type 0} (keys : Ghosts K) (values : Ghosts V) (hash : K × V →
     pub putting-less : (start : ℕ) (from : List ℕ) (first : K × V) (steps : ℕ) (bytes : List ℕ) (x : K × V) (i mark : ℕ) → start < n
         → length (items (slots_of keys values n from)) < n → Putting start from first steps bytes x i mark → steps < n
     putting-less start from first steps bytes x i mark begun room s =
-        settling-less (λ p. home_of n (hash p)) n homes start (slots_of keys values n from) first steps (slots_of keys values n bytes) x i
-        s.distance s.settling begun room
+        settling-less _ _ homes _ _ _ _ _ _ _ _ s.settling begun room
 
     -- a mark that is carried isn't that of a free slot
     pub putting-marked : (start : ℕ) (from : List ℕ) (first : K × V) (steps : ℕ) (bytes : List ℕ) (x : K × V) (i mark : ℕ)
@@ -59,16 +58,15 @@ module _ {K V : Type 0} (keys : Ghosts K) (values : Ghosts V) (hash : K × V →
           → Putting start from first (steps + 1) new (k, v) next more
       putting-on y k v next more there key value is farther =
           let slots = slots_of keys values n old in
-          let away = away-of (λ p. home_of n (hash p)) n homes slots i y (slots-long keys values n old shape) there in
-          let on = settling-swap (λ p. home_of n (hash p)) n homes start (slots_of keys values n from) first steps slots x i s.distance
-          s.settling begun room y away.0 away.1 in
+          let away = away-of (λ p. home_of n (hash p)) _ homes slots i y (slots-long _ _ _ _ shape) there in
+          let on = settling-swap _ _ homes _ _ _ _ _ _ _ _ s.settling begun room _ _ away.1 in
           let to : spot n i 1 ≡ next = sym (is ∙ next-spot n i within) in
           let r : Putting start from first (steps + 1) new y (spot n i 1) more = record {
             distance = away.0 + 1;
             settling = subst (λ w. Settling (λ p. home_of n (hash p)) n start (slots_of keys values n from) first (steps + 1) w y
                 (spot n i 1) (away.0 + 1)) (sym sets.slots) on;
-            table = table-put keys values hash n some old new shape s.table i x s.distance mark within s.settling.carried.less
-                s.settling.carried.place s.mark_is sets on.ordered;
+            table = table-put _ _ _ _ some _ _ shape s.table _ x s.distance _ within s.settling.carried.less s.settling.carried.place
+                s.mark_is sets on.ordered;
             mark_is = farther away.0 (s.table.marks i away.0 y away.1);
           } in
           subst (λ w. Putting start from first (steps + 1) new (k, v) w more) to
@@ -78,9 +76,8 @@ module _ {K V : Type 0} (keys : Ghosts K) (values : Ghosts V) (hash : K × V →
       pub putting-done : slice_get (slots_of keys values n old) i ≡ Some None
           → IsTable keys values hash n new × Settled (slots_of keys values n from) (slots_of keys values n new) first
       putting-done free =
-          let done = settling-done (λ p. home_of n (hash p)) n homes start (slots_of keys values n from) first steps
-          (slots_of keys values n old) x i s.distance s.settling free in (
-            table-put keys values hash n some old new shape s.table i x s.distance mark within s.settling.carried.less
-                s.settling.carried.place s.mark_is sets done.0,
+          let done = settling-done _ _ homes _ _ _ _ _ _ _ _ s.settling free in (
+            table-put _ _ _ _ some _ _ shape s.table _ x s.distance _ within s.settling.carried.less s.settling.carried.place s.mark_is sets
+                done.0,
             subst (λ w. Settled (slots_of keys values n from) w first) (sym sets.slots) done.1,
           )

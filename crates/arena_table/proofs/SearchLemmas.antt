@@ -37,6 +37,12 @@ module _ {K V : Type 0} (keys : Ghosts K) (values : Ghosts V) (n : ℕ) (bytes :
       passed = λ h table. mark-passed-none (λ p. home_of n (h p)) n (home_of n hash) (slots_of keys values n bytes);
     }
 
+    -- a slot with the mark that is sought holds a pair
+    pub seeking-taken : (k at mark : ℕ) → Seeking k at mark → slice_index bytes at ≡ mark
+        → (x : K × V) × (slice_get (slots_of keys values n bytes) at ≡ Some (Some x))
+    seeking-taken k at mark s is =
+        slot-taken keys values n bytes shape at s.within (omega (arith, is, s.mark_is, mark-some hash k))
+
     -- a whole round meets a free slot
     pub seeking-less : (k at mark : ℕ) → Seeking k at mark → (h : K × V → ℕ) → IsTable keys values h n bytes
         → length (items (slots_of keys values n bytes)) < n → k < n
@@ -51,8 +57,7 @@ module _ {K V : Type 0} (keys : Ghosts K) (values : Ghosts V) (n : ℕ) (bytes :
         within = subst (λ p. p < n) (sym is) (mod-lt (at + 1) some);
         place = step-place n (home_of n hash) k at next (mod-lt hash some) less s.place is;
         mark_is = mark';
-        passed = λ h table. marked-passes h n some (slots_of keys values n bytes) (λ i. slice_index bytes i) (marked h table) hash k less
-            (s.passed h table)
+        passed = λ h table. marked-passes h _ some _ (λ i. slice_index bytes i) (marked _ table) hash _ less (s.passed h table)
             (subst (λ p. mark_of hash k / 16 * 16 ≤ slice_index bytes p) s.place
             (subst (λ m. m / 16 * 16 ≤ slice_index bytes at) s.mark_is high));
       }
@@ -65,15 +70,11 @@ module _ {K V : Type 0} (keys : Ghosts K) (values : Ghosts V) (n : ℕ) (bytes :
           → Passed n content q (home_of n hash) (slots_of keys values n bytes) k
           → Passed n content q (home_of n hash) (slots_of keys values n bytes) (k + 1)
       seeking-other high h table content q hashed other passed =
-          let y = slot-taken keys values n bytes shape at s.within (omega (arith, high, mark-some hash k, s.mark_is)) in
-          passed-more n (home_of n hash) (slots_of keys values n bytes) content q k y.0 passed
-          (ap (slice_get (slots_of keys values n bytes)) (sym s.place) ∙ y.1)
-          (λ same. other
-          (ap (slice_index bytes) s.place
-          ∙ marked-same h n some (slots_of keys values n bytes) (λ i. slice_index bytes i) (marked h table) hash k less y.0
-          (ap (slice_get (slots_of keys values n bytes)) (sym s.place) ∙ y.1) (hashed y.0 same)
-          ∙ sym s.mark_is)
-          y.0 y.1 same)
+          let y = slot-taken _ _ _ _ shape at s.within (omega (arith, high, mark-some hash k, s.mark_is)) in
+          passed-more _ _ _ _ _ _ y.0 passed (ap (slice_get (slots_of keys values n bytes)) (sym s.place) ∙ y.1)
+          (λ same. other (ap (slice_index bytes) s.place ∙ marked-same h n some (slots_of keys values n bytes) (λ i. slice_index bytes i)
+          (marked _ table) _ k less y.0 (ap (slice_get (slots_of keys values n bytes)) (sym s.place) ∙ y.1) (hashed y.0 same) ∙ sym
+          s.mark_is) y.0 y.1 same)
 
       -- the search stops there
       module _ (h : K × V → ℕ) (table : IsTable keys values h n bytes) (low : slice_index bytes at < mark / 16 * 16) where
@@ -86,12 +87,10 @@ module _ {K V : Type 0} (keys : Ghosts K) (values : Ghosts V) (n : ℕ) (bytes :
         seeking-spot =
             subst (λ m. IsSpotFor (λ p. home_of n (h p)) n (slots_of keys values n bytes) hash at m) (sym s.mark_is)
             (subst (λ p. IsSpotFor (λ p. home_of n (h p)) n (slots_of keys values n bytes) hash p (mark_of hash k)) (sym s.place)
-            (marked-spot h n some (slots_of keys values n bytes) (λ i. slice_index bytes i) (marked h table) hash k less
-            (s.passed h table) stops))
+            (marked-spot h _ some _ (λ i. slice_index bytes i) (marked _ table) hash _ less (s.passed h table) stops))
 
         pub seeking-lacks : (content : K × V → List ℕ) (q : List ℕ)
             → ((j : ℕ) (x : K × V) → slice_get (slots_of keys values n bytes) j ≡ Some (Some x) → content x ≡ q → h x ≡ hash)
             → Passed n content q (home_of n hash) (slots_of keys values n bytes) k → Lacks content (slots_of keys values n bytes) q
         seeking-lacks content q hashed passed =
-            marked-lacks h n some (slots_of keys values n bytes) (λ i. slice_index bytes i) (marked h table) content q hash k hashed
-            passed stops
+            marked-lacks h _ some _ (λ i. slice_index bytes i) (marked _ table) _ _ hash _ hashed passed stops

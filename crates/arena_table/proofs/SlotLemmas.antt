@@ -46,11 +46,6 @@ module _ {X : Type 0} where
   length-marked (m ∷ marks) [] e = refl
   length-marked (m ∷ marks) (x ∷ xs) e = ap suc (length-marked marks xs (omega arith))
 
-  marked-most : (marks : List ℕ) (xs : List X) → length (marked marks xs) ≤ length marks
-  marked-most [] xs = omega arith
-  marked-most (m ∷ marks) [] = omega arith
-  marked-most (m ∷ marks) (x ∷ xs) = omega (arith, marked-most marks xs)
-
   marked-get : (marks : List ℕ) (xs : List X) (i : ℕ) (x : X) → i < length marks → slice_get xs i ≡ Some x
       → slice_get (marked marks xs) i ≡ Some (held (get_or marks i 0) x)
   marked-get [] xs i x h s = absurd (omega arith)
@@ -125,17 +120,6 @@ splice-behind at n xs ys h =
 pub slot-within : (i n key value : ℕ) → i < n → n + i * (key + value) + (key + value) ≤ n * slot_size key value
 slot-within i n key value h = omega (arith, rows_before i n (key + value) h)
 
--- in any bytes there are no more slots than marks
-pub slots-most : {K V : Type 0} (keys : Ghosts K) (values : Ghosts V) (n : ℕ) (bytes : List ℕ) → length (slots_of keys values n bytes) ≤ n
-unfolding slots_of
-slots-most keys values n bytes =
-    omega (
-      arith,
-      marked-most (take n bytes) (elements (keys.SIZE + values.SIZE) (pair_of keys values) n (drop n bytes)),
-      length-take n
-          bytes,
-    )
-
 -- the bytes of a pair decode to the pair
 pub pair-back : {K V : Type 0} (keys : Ghosts K) (values : Ghosts V) (k : K) (v : V) → length (keys.encoded k) ≡ keys.SIZE
     → keys.decoded (keys.encoded k) ≡ k → values.decoded (values.encoded v) ≡ v
@@ -179,8 +163,7 @@ module _ {K V : Type 0} (keys : Ghosts K) (values : Ghosts V) (n : ℕ) (bytes :
   -- a slot that holds a pair has a mark, and the pair is in its bytes
   holds : (i : ℕ) (x : K × V) → i < n → slice_get (slots_of keys values n bytes) i ≡ Some (Some x)
       → (0 < get_or bytes i 0) × (pair_at i ≡ x)
-  holds i x h s = held-is (get_or bytes i 0) (pair_at i) x (same_Some (held (get_or bytes i 0) (pair_at i)) (Some x)
-      (sym (slot-is i h) ∙ s))
+  holds i x h s = held-is (get_or bytes i 0) _ _ (same_Some (held (get_or bytes i 0) (pair_at i)) (Some x) (sym (slot-is i h) ∙ s))
 
   pub slot-within-long : (i : ℕ) (x : K × V) → slice_get (slots_of keys values n bytes) i ≡ Some (Some x) → i < n
   slot-within-long i x s = omega (arith, slots-long, slice_get_within (slots_of keys values n bytes) i (Some x) s)
@@ -234,8 +217,7 @@ module _ {K V : Type 0} (keys : Ghosts K) (values : Ghosts V) (n : ℕ) (bytes :
         slots = rw (
           take_at marks pairs n front,
           drop_at marks pairs n front,
-          elements-set (keys.SIZE + values.SIZE) dec n (drop n bytes)
-              i ys h pairs-fit long,
+          elements-set _ dec n (drop n bytes) i ys h pairs-fit long,
           back,
         )
             (marked-put (take n bytes) (elements (keys.SIZE + values.SIZE) dec n (drop n bytes)) i m x

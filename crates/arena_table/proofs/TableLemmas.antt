@@ -50,8 +50,7 @@ module _ {K V : Type 0} (keys : Ghosts K) (values : Ghosts V) (hash : K × V →
     ordered = subst (IsOrdered (λ p. home_of n (hash p)) n) (sym sets.slots) ordered;
     marks = λ j e y a.
         let a' = subst (λ w. IsAway (λ p. home_of n (hash p)) n w j y e) sets.slots a in
-        let c = away-free (λ p. home_of n (hash p)) n homes (slots_of keys values n old) i (get_or (slots_of keys values n old) i None) j
-        y e (was i within) a' in
+        let c = away-free _ _ homes (slots_of keys values n old) i (get_or (slots_of keys values n old) i None) _ _ _ (was i within) a' in
         sets.others j (inside j y c.1.there) c.0 ∙ table.marks j e y c.1;
   }
 

@@ -19,10 +19,8 @@ returns-then-mark-lt-AWAY g c =
 
 pub slots-preserved : goal.slots-preserved
 slots-preserved g c =
-    gap-on g.K.Item g.V.Item c.args.slots c.args.at c.args.bytes.now c.requires.at c.slots.counter c.slots.bytes _ c.slots.gap
-    c.ring-next.result (omega arith)
-    c.slots.invariant c.ring-next.ensures (omega arith) (omega arith) c.pull.ensures.shape c.pull.ensures.copies
+    gap-on _ _ _ c.args.at c.args.bytes.now c.requires.at _ _ _ _ _ (omega arith) c.slots.invariant c.ring-next.ensures (omega arith)
+    (omega arith) c.pull.ensures.shape c.pull.ensures.copies
 
 pub returns : goal.returns
-returns g c = gap-ends g.K.Item g.V.Item c.args.slots c.args.at c.args.bytes.now c.requires.at c.slots.counter c.slots.bytes c.slots.gap
-    (omega arith) c.slots.invariant
+returns g c = gap-ends g.K.Item g.V.Item c.args.slots c.args.at c.args.bytes.now c.requires.at _ _ _ (omega arith) c.slots.invariant

@@ -8,14 +8,10 @@ slots-init c = (near-start c.args.slots c.args.bytes.now c.args.at c.requires.at
 
 pub returns-then-mark-lt-AWAY : goal.returns-then-mark-lt-AWAY
 returns-then-mark-lt-AWAY c = λ t.
-    near-stop c.args.slots c.args.bytes.now c.args.at c.requires.at c.slots.counter c.slots.gap c.ring-gap.result (omega arith)
-    c.slots.invariant.0 c.ring-gap.ensures
-    c.if-mark-lt-AWAY.true
+    near-stop _ _ _ c.requires.at _ _ _ (omega arith) c.slots.invariant.0 c.ring-gap.ensures c.if-mark-lt-AWAY.true
 
 pub slots-preserved : goal.slots-preserved
 slots-preserved c = (
-  near-on c.args.slots c.args.bytes.now c.args.at c.requires.at c.slots.counter c.slots.gap c.ring-gap.result (omega arith)
-      c.slots.invariant.0 c.ring-gap.ensures
-      (omega arith),
+  near-on _ _ _ c.requires.at _ _ _ (omega arith) c.slots.invariant.0 c.ring-gap.ensures (omega arith),
   subst (λ w. w < c.args.slots) (sym c.ring-gap.ensures) (mod-lt _ (omega arith)),
 )

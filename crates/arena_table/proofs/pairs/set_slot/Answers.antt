@@ -10,14 +10,13 @@ returns-clause-sets g c = λ some.
     let value = met.V.Item.encoded_length c.args.value c.set_pair.ensures.value shape.values_small in
     let long : length (g.K.Item.encoded c.args.key ++ g.V.Item.encoded c.args.value) ≡ g.K.Item.SIZE + g.V.Item.SIZE =
     omega (arith, key, value, length-append (g.K.Item.encoded c.args.key) (g.V.Item.encoded c.args.value)) in
-    let back = pair-back g.K.Item g.V.Item c.args.key c.args.value key
-    (met.K.Item.round_trip c.args.key c.set_pair.ensures.key shape.keys_small)
+    let back = pair-back g.K.Item g.V.Item _ _ key (met.K.Item.round_trip c.args.key c.set_pair.ensures.key shape.keys_small)
     (met.V.Item.round_trip c.args.value c.set_pair.ensures.value shape.values_small) in
     rw (
       c.split_at_mut-marks.ensures.front,
       c.split_at_mut-marks.ensures.back,
       c.set_pair.ensures.bytes,
       c.pair_size-size.ensures,
-      mid-splice (c.args.i * (g.K.Item.SIZE + g.V.Item.SIZE)) (g.K.Item.SIZE + g.V.Item.SIZE) _ _ long,
+      mid-splice (c.args.i * (g.K.Item.SIZE + g.V.Item.SIZE)) _ _ _ long,
     )
-    (slot-set g.K.Item g.V.Item c.args.slots c.args.bytes.now shape c.args.i c.args.mark _ _ c.requires.index some long back)
+    (slot-set _ _ _ _ shape c.args.i c.args.mark _ _ c.requires.index some long back)

@@ -16,10 +16,9 @@ returns g c =
       c.SIZE-2.ensures,
       c.pair_size.ensures,
       c.encode.ensures,
-      mid-splice place g.V.Item.SIZE _ _ long,
+      mid-splice place _ _ _ long,
     )
     (record {
       long = length-splice c.args.bytes.now place (g.V.Item.encoded c.args.value) fits;
-      sets = λ x there. value-set g.K.Item g.V.Item c.args.slots c.args.bytes.now shape c.args.at (g.V.Item.encoded c.args.value) x
-          c.args.value there long back;
+      sets = λ x there. value-set _ _ _ _ shape c.args.at (g.V.Item.encoded c.args.value) x _ there long back;
     })

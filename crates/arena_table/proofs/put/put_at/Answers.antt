@@ -11,8 +11,7 @@ slots-init g c =
       shape = c.requires.shape;
       within = c.requires.at;
       long = refl;
-      walk = λ hash d table place is room. putting-start g.K.Item g.V.Item hash c.args.slots some c.args.bytes.now
-          (c.args.key, c.args.value) c.args.at d c.args.mark table place is;
+      walk = λ hash d table place is room. putting-start _ _ _ _ some _ _ _ _ _ table place is;
     }
 
 pub returns-then-old-eq0 : goal.returns-then-old-eq0
@@ -34,7 +33,7 @@ slots-preserved g c =
     let some : 0 < c.args.slots = omega arith in
     let n : ℕ = c.args.slots in
     let at = c.slots.invariant in
-    let taken = slot-taken g.K.Item g.V.Item n c.slots.bytes at.shape c.slots.i at.within (omega arith) in
+    let taken = slot-taken _ _ _ _ at.shape c.slots.i at.within (omega arith) in
     record {
       shape = c.set_slot-in-slots.ensures.shape;
       within = subst (λ w. w < n) (sym c.ring-i.ensures) (mod-lt _ some);
@@ -42,8 +41,7 @@ slots-preserved g c =
       walk = λ hash d table place is room.
           let s = at.walk hash d table place is room in
           let sets = c.set_slot-in-slots.ensures.sets (putting-marked g.K.Item g.V.Item hash n some _ _ _ _ _ _ _ _ s) in
-          putting-on g.K.Item g.V.Item hash n some _ _ _ _ _ _ _ _ _ c.requires.at room at.shape at.within s sets taken.0 _ _ _
-          c.farther-carried.result taken.1
+          putting-on _ _ hash _ some _ _ _ _ _ _ _ _ _ c.requires.at room at.shape at.within s sets taken.0 _ _ _ _ taken.1
           (c.key_at-old_key.ensures taken.0 taken.1) (c.value_at-old_value.ensures taken.0 taken.1) c.ring-i.ensures
           (λ e is. c.farther-carried.ensures (hash taken.0) e is);
     }

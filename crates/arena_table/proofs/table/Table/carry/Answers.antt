@@ -10,37 +10,30 @@ use Rattle.arena_table.proofs.table.Table.carry.Goals as goal
 
 pub step-slot-requires-clause-groups : goal.step-slot-requires-clause-groups
 step-slot-requires-clause-groups g c =
-    table-groups g.K.Item g.V.Item c.args.a.now.memory c.args.from c.read-bytes.result.now c.requires.keys_small c.requires.values_small
-    c.requires.from.handle c.read-bytes.ensures
+    table-groups _ _ _ _ _ c.requires.keys_small c.requires.values_small c.requires.from.handle c.read-bytes.ensures
 
 pub step-slot-requires-clause-long : goal.step-slot-requires-clause-long
 step-slot-requires-clause-long g c =
-    table-long g.K.Item g.V.Item c.args.a.now.memory c.args.from c.read-bytes.result.now c.requires.keys_small c.requires.values_small
-    c.requires.from.handle c.read-bytes.ensures
+    table-long _ _ _ _ _ c.requires.keys_small c.requires.values_small c.requires.from.handle c.read-bytes.ensures
 
 pub key_at-key-requires-clause-shape : goal.key_at-key-requires-clause-shape
 key_at-key-requires-clause-shape g c =
     let goes = MatchOption-at_some _ _ c.in-Some.i c.in-Some.is c.step-slot.ensures.goes in
     rw c.read-bytes.ensures
-    (handle-shape g.K.Item g.V.Item c.args.a.now.memory c.args.from c.requires.keys_small c.requires.values_small c.requires.from.handle
-    (omega (arith, goes.less)))
+    (handle-shape _ _ _ _ c.requires.keys_small c.requires.values_small c.requires.from.handle (omega (arith, goes.less)))
 
 pub value_at-value-requires-clause-shape : goal.value_at-value-requires-clause-shape
 value_at-value-requires-clause-shape g c =
     let goes = MatchOption-at_some _ _ c.in-Some.i c.in-Some.is c.step-slot.ensures.goes in
     rw c.read-bytes.ensures
-    (handle-shape g.K.Item g.V.Item c.args.a.now.memory c.args.from c.requires.keys_small c.requires.values_small c.requires.from.handle
-    (omega (arith, goes.less)))
+    (handle-shape _ _ _ _ c.requires.keys_small c.requires.values_small c.requires.from.handle (omega (arith, goes.less)))
 
 pub content-requires : goal.content-requires
 content-requires g c =
     let m = c.args.a.now.memory in
     let goes = MatchOption-at_some _ _ c.in-Some.i c.in-Some.is c.step-slot.ensures.goes in
-    let shape = handle-shape g.K.Item g.V.Item m c.args.from c.requires.keys_small c.requires.values_small c.requires.from.handle
-    (omega (arith, goes.less)) in
-    let x = walk-goes g.K.Item g.V.Item c.args.from.slots (bytes_of m c.args.from.block) (inr shape) c.args.scan c.step-slot.result.1
-    c.in-Some.i
-    (rw c.read-bytes.ensures at goes) in
+    let shape = handle-shape _ _ _ _ c.requires.keys_small c.requires.values_small c.requires.from.handle (omega (arith, goes.less)) in
+    let x = walk-goes g.K.Item g.V.Item _ (bytes_of m c.args.from.block) (inr shape) _ _ _ (rw c.read-bytes.ensures at goes) in
     let key = (rw c.read-bytes.ensures at c.key_at-key.ensures) x.0 x.1 in
     subst (λ w. IsTrue (is_readable m.state (g.K.ArenaKey.key.text w))) (sym key) (c.requires.from.texts x.0 (c.in-Some.i, x.1)).readable
 
@@ -48,11 +41,8 @@ pub settle-requires-clause-text : goal.settle-requires-clause-text
 settle-requires-clause-text g c =
     let m = c.args.a.now.memory in
     let goes = MatchOption-at_some _ _ c.in-Some.i c.in-Some.is c.step-slot.ensures.goes in
-    let shape = handle-shape g.K.Item g.V.Item m c.args.from c.requires.keys_small c.requires.values_small c.requires.from.handle
-    (omega (arith, goes.less)) in
-    let x = walk-goes g.K.Item g.V.Item c.args.from.slots (bytes_of m c.args.from.block) (inr shape) c.args.scan c.step-slot.result.1
-    c.in-Some.i
-    (rw c.read-bytes.ensures at goes) in
+    let shape = handle-shape _ _ _ _ c.requires.keys_small c.requires.values_small c.requires.from.handle (omega (arith, goes.less)) in
+    let x = walk-goes g.K.Item g.V.Item _ (bytes_of m c.args.from.block) (inr shape) _ _ _ (rw c.read-bytes.ensures at goes) in
     let key = (rw c.read-bytes.ensures at c.key_at-key.ensures) x.0 x.1 in
     subst (λ w. IsTextBeside g.K.ArenaKey.key m c.args.self.block w) (sym key) (c.requires.from.texts x.0 (c.in-Some.i, x.1))
 

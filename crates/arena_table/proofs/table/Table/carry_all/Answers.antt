@@ -4,7 +4,6 @@ use Rattle.arena_items.proofs.Layers.{same_then}
 use Rattle.arena_items.specs.Values.{bytes_of}
 use Rattle.hash_ring.specs.Walks.{front_of, AreFree, CarriesNext}
 use Rattle.hash_ring.proofs.Fill.{Filled, filled-start, filled-room, filled-goes, filled-whole}
-use Rattle.arena_table.specs.Contents.{kind}
 use Rattle.arena_table.specs.Tables.{slots_in, slots_of}
 use Rattle.arena_table.proofs.ReadLemmas.{read-bytes, read-stays}
 use Rattle.arena_table.proofs.WalkLemmas.{table-long, walk-free, walk-goes, walk-shape, walk-slots}
@@ -13,8 +12,7 @@ use Rattle.arena_table.proofs.table.Table.carry_all.Goals as goal
 pub start-scan-requires : goal.start-scan-requires
 start-scan-requires g c =
     record {
-      long = table-long g.K.Item g.V.Item c.args.a.now.memory c.args.from c.read.result.now c.requires.keys_small c.requires.values_small
-          c.requires.from.handle c.read.ensures;
+      long = table-long _ _ _ _ _ c.requires.keys_small c.requires.values_small c.requires.from.handle c.read.ensures;
     }
 
 pub pairs-init : goal.pairs-init
@@ -23,8 +21,7 @@ pairs-init g c =
     let n = c.args.from.slots in
     let bytes = bytes_of m c.args.from.block in
     let from = slots_in g.K.Item g.V.Item m c.args.from in
-    let shape = walk-shape g.K.Item g.V.Item m c.args.from bytes c.requires.keys_small c.requires.values_small c.requires.from.handle
-    refl in
+    let shape = walk-shape _ _ _ _ bytes c.requires.keys_small c.requires.values_small c.requires.from.handle refl in
     record {
       held = c.requires.held;
       from = c.requires.from;
@@ -39,15 +36,13 @@ pairs-init g c =
 
 pub carry-requires-clause-free : goal.carry-requires-clause-free
 carry-requires-clause-free g c =
-    filled-room (slots_in g.K.Item g.V.Item c.args.a.now.memory c.args.from) c.args.self.slots (front_of c.pairs.scan)
-    (slots_in g.K.Item g.V.Item c.pairs.a.memory c.args.self) c.requires.room c.pairs.invariant.filled
+    filled-room _ c.args.self.slots _ _ c.requires.room c.pairs.invariant.filled
 
 pub carry-requires-clause-scan : goal.carry-requires-clause-scan
 carry-requires-clause-scan g c = rw c.pairs.invariant.same c.pairs.invariant.scan
 
 pub pairs-preserved : goal.pairs-preserved
 pairs-preserved g c =
-    let k = kind g.K.Item g.K.ArenaKey.key g.V.Item g.S.KeyHasher.hash_of in
     let at = c.pairs.invariant in
     let m = c.args.a.now.memory in
     let old = c.pairs.a.memory in
@@ -56,23 +51,20 @@ pairs-preserved g c =
     let bytes = bytes_of m c.args.from.block in
     let one = slots_in g.K.Item g.V.Item old c.args.self in
     let other = slots_in g.K.Item g.V.Item new c.args.self in
-    let shape = walk-shape g.K.Item g.V.Item m c.args.from bytes c.requires.keys_small c.requires.values_small c.requires.from.handle
-    refl in
+    let shape = walk-shape _ _ _ _ bytes c.requires.keys_small c.requires.values_small c.requires.from.handle refl in
     let next : CarriesNext n (take n bytes) (slots_of g.K.Item g.V.Item n bytes) one other c.pairs.scan c.in-Some.next =
     subst (λ b. CarriesNext n (take n b) (slots_of g.K.Item g.V.Item n b) one other c.pairs.scan c.in-Some.next) at.same
     c.in-Some.ensures.carries in
-    let x = walk-goes g.K.Item g.V.Item n bytes shape c.pairs.scan c.in-Some.next next.at next.goes in
+    let x = walk-goes g.K.Item g.V.Item _ bytes shape _ _ _ next.goes in
     record {
       held = c.carry.ensures.held;
-      from = read-stays k old new c.args.self.block c.args.from c.carry.ensures.frame at.from;
-      same = read-bytes k old new c.args.self.block c.args.from c.carry.ensures.frame at.from ∙ at.same;
+      from = read-stays _ _ _ _ _ c.carry.ensures.frame at.from;
+      same = read-bytes _ _ _ _ _ c.carry.ensures.frame at.from ∙ at.same;
       scan = next.scan_next;
-      filled = filled-goes n (take n bytes) (slots_of g.K.Item g.V.Item n bytes) (walk-slots g.K.Item g.V.Item n bytes shape)
-          (walk-free g.K.Item g.V.Item n bytes shape) c.pairs.scan c.in-Some.next next.at x.0 one other next.goes x.1
-          (next.settled x.0 x.1) at.filled;
-      places = same_then c.args.a.now c.pairs.a c.carry.new.a at.places c.carry.ensures.places;
-      frame = frame_then m old new (c.args.self.block ∷ []) (c.args.self.block ∷ []) (c.args.self.block ∷ []) at.frame
-          c.carry.ensures.frame;
+      filled = filled-goes _ _ _ (walk-slots g.K.Item g.V.Item n bytes shape) (walk-free g.K.Item g.V.Item n bytes shape) _ _ _ _ _ _
+          next.goes x.1 (next.settled x.0 x.1) at.filled;
+      places = same_then _ _ _ at.places c.carry.ensures.places;
+      frame = frame_then _ _ _ _ _ _ at.frame c.carry.ensures.frame;
     }
 
 pub pairs-smaller : goal.pairs-smaller
@@ -85,19 +77,16 @@ returns-clause-moved g c =
     let m = c.args.a.now.memory in
     let n = c.args.from.slots in
     let bytes = bytes_of m c.args.from.block in
-    let shape = walk-shape g.K.Item g.V.Item m c.args.from bytes c.requires.keys_small c.requires.values_small c.requires.from.handle
-    refl in
+    let shape = walk-shape _ _ _ _ bytes c.requires.keys_small c.requires.values_small c.requires.from.handle refl in
     let ends = c.in_default.ensures.carries in
     let free : AreFree (take n bytes) (front_of c.pairs.scan) n = subst (λ b. AreFree (take n b) (front_of c.pairs.scan) n)
     c.pairs.invariant.same ends.0 in
-    filled-whole n (take n bytes) (slots_of g.K.Item g.V.Item n bytes) (walk-slots g.K.Item g.V.Item n bytes shape)
-    (walk-free g.K.Item g.V.Item n bytes shape) c.pairs.scan (slots_in g.K.Item g.V.Item c.carry.new.a.memory c.args.self) free
-    (subst (Filled (slots_of g.K.Item g.V.Item n bytes) (front_of c.pairs.scan)) (sym ends.1) c.pairs.invariant.filled)
+    filled-whole _ (take n bytes) _ (walk-slots g.K.Item g.V.Item n bytes shape) (walk-free g.K.Item g.V.Item n bytes shape) c.pairs.scan _
+    free (subst (Filled (slots_of g.K.Item g.V.Item n bytes) (front_of c.pairs.scan)) (sym ends.1) c.pairs.invariant.filled)
 
 pub returns-clause-places : goal.returns-clause-places
 returns-clause-places g c = same_then c.args.a.now c.pairs.a c.carry.new.a c.pairs.invariant.places c.carry.ensures.places
 
 pub returns-clause-frame : goal.returns-clause-frame
 returns-clause-frame g c =
-    frame_then c.args.a.now.memory c.pairs.a.memory c.carry.new.a.memory (c.args.self.block ∷ []) (c.args.self.block ∷ [])
-    (c.args.self.block ∷ []) c.pairs.invariant.frame c.carry.ensures.frame
+    frame_then _ _ _ _ _ _ c.pairs.invariant.frame c.carry.ensures.frame

@@ -1,55 +1,34 @@
-use Rattle.std.proofs.Common.{◌<◌, arith, Some}
-use Rattle.std.proofs.lemmas.Option.{slice_get_within}
-use Rattle.arena_table.specs.Contents.{kind}
+use Rattle.std.proofs.Common.{◌<◌, arith}
 use Rattle.arena_table.specs.Edits.{IsNear}
-use Rattle.arena_table.specs.Tables.{slots_in, IsShape}
+use Rattle.arena_table.specs.Tables.{IsShape}
 use Rattle.arena_table.proofs.EditedLemmas.{in-close}
-use Rattle.arena_table.proofs.HandleLemmas.{handle-shape, given-whole}
+use Rattle.arena_table.proofs.HandleLemmas.{handle-shape, held-within, given-whole}
 use Rattle.arena_table.proofs.table.Table.close.Goals as goal
 
 pub is_near-requires-clause-long : goal.is_near-requires-clause-long
 is_near-requires-clause-long g c =
     let some : 0 < c.args.self.slots = omega (arith, c.requires.free) in
-    let shape = handle-shape g.K.Item g.V.Item c.args.a.now.memory c.args.self c.requires.keys_small c.requires.values_small
-    c.requires.held.handle some in
+    let shape = handle-shape _ _ _ _ c.requires.keys_small c.requires.values_small c.requires.held.handle some in
     rw c.read.ensures (omega (arith, shape.long))
 
 pub is_near-requires-clause-at : goal.is_near-requires-clause-at
-is_near-requires-clause-at g c =
-    let at : c.args.at < c.args.self.slots = omega (
-      arith,
-      c.requires.held.table.ordered.long,
-      slice_get_within (slots_in g.K.Item g.V.Item c.args.a.now.memory c.args.self) c.args.at (Some c.requires.taken.0) c.requires.taken.1,
-    ) in
-    at
+is_near-requires-clause-at g c = held-within c.requires.held c.args.at c.requires.taken.0 c.requires.taken.1
 
 pub write_with-requires-clause-suits : goal.write_with-requires-clause-suits
 write_with-requires-clause-suits g c =
     let some : 0 < c.args.self.slots = omega (arith, c.requires.free) in
-    let shape = handle-shape g.K.Item g.V.Item c.args.a.now.memory c.args.self c.requires.keys_small c.requires.values_small
-    c.requires.held.handle some in
-    let at : c.args.at < c.args.self.slots = omega (
-      arith,
-      c.requires.held.table.ordered.long,
-      slice_get_within (slots_in g.K.Item g.V.Item c.args.a.now.memory c.args.self) c.args.at (Some c.requires.taken.0) c.requires.taken.1,
-    ) in
+    let shape = handle-shape _ _ _ _ c.requires.keys_small c.requires.values_small c.requires.held.handle some in
     let m = c.args.a.now.memory in
     let near = rw c.read.ensures at (c.is_near.ensures c.if-not-is_near.false) in (
       given-whole m c.args.self.block (IsShape g.K.Item g.V.Item c.args.self.slots) shape,
-      at,
+      held-within c.requires.held c.args.at c.requires.taken.0 c.requires.taken.1,
       given-whole m c.args.self.block (λ bytes. IsNear c.args.self.slots bytes c.args.at) near,
     )
 
 pub returns-clause-held : goal.returns-clause-held
 returns-clause-held g c =
-    let k = kind g.K.Item g.K.ArenaKey.key g.V.Item g.S.KeyHasher.hash_of in
-    (in-close k c.args.a.now.memory c.write_with.new.self.memory c.args.hasher.now c.args.self c.requires.held c.args.at
-    c.requires.taken.0 c.requires.free
-    c.requires.taken.1 c.write_with.ensures.edits).0
+    (in-close _ _ _ _ _ c.requires.held c.args.at c.requires.taken.0 c.requires.free c.requires.taken.1 c.write_with.ensures.edits).0
 
 pub returns-clause-closed : goal.returns-clause-closed
 returns-clause-closed g c =
-    let k = kind g.K.Item g.K.ArenaKey.key g.V.Item g.S.KeyHasher.hash_of in
-    (in-close k c.args.a.now.memory c.write_with.new.self.memory c.args.hasher.now c.args.self c.requires.held c.args.at
-    c.requires.taken.0 c.requires.free
-    c.requires.taken.1 c.write_with.ensures.edits).1
+    (in-close _ _ _ _ _ c.requires.held c.args.at c.requires.taken.0 c.requires.free c.requires.taken.1 c.write_with.ensures.edits).1

@@ -6,9 +6,7 @@ use Rattle.arena_table.proofs.table.Table.settle.Goals as goal
 
 pub spot_for-at-requires : goal.spot_for-at-requires
 spot_for-at-requires g c = rw c.read.ensures (record {
-  shape = handle-shape g.K.Item g.V.Item c.args.a.now.memory c.args.self c.requires.keys_small c.requires.values_small
-      c.requires.held.handle
-      (omega (arith, c.requires.free));
+  shape = handle-shape _ _ _ _ c.requires.keys_small c.requires.values_small c.requires.held.handle (omega (arith, c.requires.free));
 })
 
 pub put-requires-clause-spot : goal.put-requires-clause-spot
