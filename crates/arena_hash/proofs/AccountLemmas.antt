@@ -25,8 +25,6 @@ use Rattle.arena_hash.specs.Accounts.{unit_of, spare_of, credit_of, used, IsFree
 use Rattle.arena_hash.specs.Policy.{growth_for}
 use Rattle.arena_hash.specs.declared.map.HashMap.{HashMap}
 
--- ---- Layouts
-
 -- ---- Results
 
 -- A refusal is reported alike for each block,

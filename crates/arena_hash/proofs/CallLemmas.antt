@@ -170,13 +170,11 @@ module _ {K V S : Type 0} (k : Kind K V S) (keys : IsItemLayout k.keys.SIZE k.ke
         let put : Settled (slots old.memory m) (slots new.memory w) (key, value) = rw same_table settled in
         let made : MakesRoom {X = X} size align old new m.table.block 0 Stays (λ _. w.table.block) (Ok x) =
         (ap (λ t. t.block) same_table, places) in
-        puts-new new w value tells x (slots old.memory m) beside framed tabled (moved-none (slots old.memory m)) put same_hasher len
-        (rw (same_table, len) (omega (arith, room)))
-        (subst (λ gr. w.table.slots ≡ capacity_after gr m.table.slots) (sym (growth-room m.table.slots m.len room))
-        (ap (λ t. t.slots) same_table))
+        puts-new _ _ _ _ x _ beside framed tabled (moved-none (slots old.memory m)) put same_hasher len
+        (rw (same_table, len) (omega (arith, room))) (subst (λ gr. w.table.slots ≡ capacity_after gr m.table.slots)
+        (sym (growth-room m.table.slots m.len room)) (ap (λ t. t.slots) same_table))
         (subst (λ gr. MakesRoom {X = X} size align old new m.table.block 0 gr (λ _. w.table.block) (Ok x))
-        (sym (growth-room m.table.slots m.len room)) made)
-        told
+        (sym (growth-room m.table.slots m.len room)) made) told
 
     -- and if the next one was placed.
     pub puts-grown : {X : Type 0} (mid new : View) (t : Table K V) (w : HashMap K V S) (value : V) (tells : Option V → X → Type 0) (x : X)
@@ -201,13 +199,12 @@ module _ {K V S : Type 0} (k : Kind K V S) (keys : IsItemLayout k.keys.SIZE k.ke
         (omega (arith, held.within)) made in
         let grown = growth-full m.table.slots m.len full in
         let growth : Growth = if m.len == most_pairs then Overflows else GrowsTo (next_slots m.table.slots) in
-        puts-new new w value tells x (slots_in k.keys k.values mid.memory t) beside framed tabled moved put same_hasher len
+        puts-new _ _ _ _ x _ beside framed tabled moved put same_hasher len
         (rw (same_table, len, grows) (next-room m.table.slots m.len held.handle.ring held.within few))
         (subst (λ gr. w.table.slots ≡ capacity_after gr m.table.slots) (sym grown) (rw (same_table, grows) (after few)))
         (subst (λ gr. MakesRoom {X = X} size align old new m.table.block 0 gr (λ _. w.table.block) (Ok x)) (sym grown)
-        (room_then size align old mid new m.table.block 0 growth (λ t. t.block) (λ _. w.table.block) t x (ap (λ t. t.block) same_table)
-        made places))
-        told
+        (room_then size align old mid new m.table.block 0 growth (λ t. t.block) (λ _. w.table.block) t x (ap (λ t. t.block) same_table) made
+        places)) told
       where
         after : m.len < most_pairs → next_slots m.table.slots ≡ capacity_after
             (if m.len == most_pairs then Overflows else GrowsTo (next_slots m.table.slots)) m.table.slots

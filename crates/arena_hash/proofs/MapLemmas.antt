@@ -38,10 +38,6 @@ module _ {K V S : Type 0} (k : Kind K V S) where
   pub map-table : (memory : Memory) (m : HashMap K V S) → IsMapIn k memory m → IsTableIn k memory m.hasher m.table
   map-table memory m held = record { handle = held.handle; table = held.table; texts = texts-beside k memory m held.texts held.apart }
 
-  -- with a free slot if it has any slots,
-  pub map-free : (memory : Memory) (m : HashMap K V S) → IsMapIn k memory m → 0 < m.table.slots → HasFree k.keys k.values memory m.table
-  map-free memory m held some = omega (arith, held.count, held.within)
-
   -- in which no content occurs twice.
   pub map-once : (memory : Memory) (m : HashMap K V S) → IsMapIn k memory m → IsOnce (content memory) (slots memory m)
   map-once memory m held = is_once (content_in k.key memory) (slots memory m) held.once

@@ -12,7 +12,7 @@ use Rattle.hash_ring.specs.Walks.{AreBoth, AreEqual}
 use Rattle.hash_ring.specs.Policy.{slot_size, table_align}
 use Rattle.hash_ring.proofs.Equal.{both-has}
 use Rattle.arena_table.specs.Contents.{Kind}
-use Rattle.arena_hash.specs.Changes.{Puts, TakesOut}
+use Rattle.arena_hash.specs.Changes.{Puts}
 use Rattle.arena_hash.specs.Sets.{HaveSame, StepsInPairs}
 use Rattle.arena_hash.specs.declared.map.HashMap.{HashMap}
 use Rattle.arena_hash.proofs.AccountLemmas.{answer-refused}
@@ -25,9 +25,8 @@ module _ {K V S X Y : Type 0} (k : Kind K V S) (old new : View) (m : HashMap K V
   puts-as x y told p =
       let same : SamePlaces new new = record { state = refl; statistics = refl; source = refl } in
       record {
-        made = room_then (slot_size k.keys.SIZE k.values.SIZE) (table_align k.keys.ALIGN k.values.ALIGN) old new new m.table.block 0 _
-            (λ _. w.table.block)
-            (λ _. w.table.block) x y refl p.made same;
+        made = room_then (slot_size k.keys.SIZE k.values.SIZE) (table_align k.keys.ALIGN k.values.ALIGN) old _ _ m.table.block 0 _
+            (λ _. w.table.block) (λ _. w.table.block) x y refl p.made same;
         held = p.held;
         map_is = p.map_is;
         says = told _ p.says;
@@ -76,12 +75,6 @@ module _ {K V S X Y : Type 0} (k : Kind K V S) (old new : View) (m : HashMap K V
     hasher = p.hasher;
     frame = p.frame;
   }
-
--- So may what a removal reports.
-pub takes-as : {K V S X Y : Type 0} (k : Kind K V S) (old new : View) (m : HashMap K V S) (key : K) (tells : Option V → X → Type 0)
-    (says : Option V → Y → Type 0) (w : HashMap K V S) (x : X) (y : Y) → ((before : Option V) → tells before x → says before y)
-    → TakesOut k old new m key tells w x → TakesOut k old new m key says w y
-takes-as k old new m key tells says w x y told t = record { becomes = t.becomes; says = told _ t.says; len = t.len }
 
 -- ---- Equality: that of two maps with no values
 

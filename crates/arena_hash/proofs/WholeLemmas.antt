@@ -60,25 +60,6 @@ module _ {K V S : Type 0} (k : Kind K V S) (keys : IsItemLayout k.keys.SIZE k.ke
     frame = (empty_after old.memory old.memory [] [] [] m.table.block new.block).1 (frame_reflexive old.memory []);
   }
 
-  -- Too many pairs are asked for.
-  pub places-too-many : (old : View) (pairs : ℕ) → 2 ^ 32 ≤ pairs → PlacesMap {X = HashMap K V S} k (λ m. m) old old pairs
-      (Err CapacityOverflow)
-  places-too-many old pairs many = record {
-    none = λ is. absurd (omega (arith, many, is));
-    overflows = λ h. (refl, refl);
-    made = λ some few. absurd (omega (arith, many, few));
-    asks = λ some few. absurd (omega (arith, many, few));
-    held = tt;
-    map_is = tt;
-    len = tt;
-    slots = λ some. tt;
-    spare = tt;
-    credit = tt;
-    bytes = tt;
-    err = refl;
-    frame = tt;
-  }
-
   module _ (old new : View) (pairs slots : ℕ) (some : 0 < pairs) (few : pairs < 2 ^ 32) (is : IsSlotsFor pairs slots) where
     -- A table is placed,
     pub places-table : (m : HashMap K V S) → m.table.slots ≡ slots → m.len ≡ 0

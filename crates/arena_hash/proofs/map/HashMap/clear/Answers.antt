@@ -12,13 +12,12 @@ returns-clause-becomes g c =
     let m = c.args.self.now in
     let w : HashMap g.row.K.Denot g.row.V.Denot g.row.S.Denot = record { table = m.table; len = 0; hasher = m.hasher } in
     record {
-      held = free-map k c.free_all.new.a.memory w freed.free freed.held refl;
+      held = free-map _ _ _ freed.free freed.held refl;
       map_is = free-is k c.free_all.new.a.memory w freed.free;
       table = refl;
       hasher = refl;
       places = freed.places;
-      costs = free-costs k g.met.K.Item.layout g.met.V.Item.layout c.requires.keys_small c.requires.values_small c.args.a.now
-          c.free_all.new.a
-          m w freed.places refl (omega arith);
+      costs = free-costs _ g.met.K.Item.layout g.met.V.Item.layout c.requires.keys_small c.requires.values_small _ _ _ _ freed.places refl
+          (omega arith);
       frame = freed.frame;
     }

@@ -1,15 +1,12 @@
 use Rattle.std.proofs.Common.{[], ◌∷◌}
 use Rattle.std.proofs.lemmas.Result.{err_from_is_err_and}
 use Rattle.arena_chunks.proofs.Layers.{frame_keeps}
-use Rattle.arena_table.specs.Contents.{kind}
 use Rattle.arena_hash.proofs.CollectLemmas.{collecting-none, collecting-more, collecting-refused, collecting-all}
 use Rattle.arena_hash.proofs.map.HashMap.from_iter_in.Goals as goal
 
 pub loop-pair-init : goal.loop-pair-init
 loop-pair-init g c =
-    collecting-none (kind g.K.Item g.K.ArenaKey.key g.V.Item g.S.KeyHasher.hash_of) g.I.Iterator.next_gives c.args.iter c.args.a.now
-    c.new_in-map.result
-    c.new_in-map.ensures.map
+    collecting-none _ g.I.Iterator.next_gives _ _ _ c.new_in-map.ensures.map
 
 pub insert-requires-clause-text : goal.insert-requires-clause-text
 insert-requires-clause-text g c =
@@ -25,24 +22,17 @@ insert-requires-clause-apart g c =
 
 pub loop-pair-preserved : goal.loop-pair-preserved
 loop-pair-preserved g c =
-    collecting-more (kind g.K.Item g.K.ArenaKey.key g.V.Item g.S.KeyHasher.hash_of) g.I.Iterator.next_gives c.args.iter c.loop-pair.iter
-    c.next.new.self
-    c.args.a.now c.loop-pair.a c.insert.new.a c.loop-pair.map c.insert.new.self c.in-Some.pair c.loop-pair.invariant
-    c.in-Some.ensures.steps
+    collecting-more _ g.I.Iterator.next_gives _ _ _ _ _ _ _ _ c.in-Some.pair c.loop-pair.invariant c.in-Some.ensures.steps
     (c.requires.texts c.loop-pair.invariant.pairs c.loop-pair.iter c.next.new.self c.in-Some.pair c.loop-pair.invariant.yields
-    c.in-Some.ensures.steps)
-    _ c.in_ok-insert.ensures
+    c.in-Some.ensures.steps) _ c.in_ok-insert.ensures
 
 pub returns-in_err-insert-clause-refused : goal.returns-in_err-insert-clause-refused
 returns-in_err-insert-clause-refused g c =
     let p = err_from_is_err_and c.from_residual.result c.from_residual.ensures.1 in
     rw (p.1, p.2)
-    (collecting-refused (kind g.K.Item g.K.ArenaKey.key g.V.Item g.S.KeyHasher.hash_of) g.I.Iterator.next_gives c.args.iter c.loop-pair.iter
-    c.next.new.self c.args.a.now c.loop-pair.a c.insert.new.a c.loop-pair.map c.insert.new.self c.in-Some.pair c.loop-pair.invariant
-    c.in-Some.ensures.steps _ c.in_err-insert.ensures)
+    (collecting-refused _ g.I.Iterator.next_gives _ _ c.next.new.self _ _ _ _ _ c.in-Some.pair c.loop-pair.invariant c.in-Some.ensures.steps
+    _ c.in_err-insert.ensures)
 
 pub returns-clause-collects : goal.returns-clause-collects
 returns-clause-collects g c =
-    collecting-all (kind g.K.Item g.K.ArenaKey.key g.V.Item g.S.KeyHasher.hash_of) g.I.Iterator.next_gives c.args.iter c.loop-pair.iter
-    c.next.new.self
-    c.args.a.now c.loop-pair.a c.loop-pair.map c.loop-pair.invariant (rw c.in_default.is at c.next.ensures.steps)
+    collecting-all _ _ _ _ c.next.new.self _ _ _ c.loop-pair.invariant (rw c.in_default.is at c.next.ensures.steps)

@@ -1,14 +1,13 @@
-use Rattle.std.proofs.Common.{ℕ, ◌<◌, sym, ap, subst, ◌∙◌, arith, [], ◌∷◌, None, replicate}
+use Rattle.std.proofs.Common.{ℕ, ◌<◌, sym, ap, subst, ◌∙◌, arith, None, replicate}
 use Rattle.std.specs.Prelude.{slice_get}
 use Rattle.std.proofs.lemmas.Result.{err_from_is_err_and}
 use Rattle.arena_chunks.proofs.Layers.{frame_then}
-use Rattle.arena_items.specs.Values.{bytes_of}
 use Rattle.hash_ring.specs.Policy.{next_slots, slot_size, table_align, most_pairs}
 use Rattle.hash_ring.specs.Slots.{Moved}
 use Rattle.hash_ring.proofs.Count.{items-most, none-there}
 use Rattle.hash_ring.proofs.PolicyLemmas.{next-ring}
 use Rattle.arena_table.specs.Contents.{kind}
-use Rattle.arena_table.specs.Tables.{pair_hash, slots_in}
+use Rattle.arena_table.specs.Tables.{slots_in}
 use Rattle.arena_table.proofs.FreeLemmas.{free-table}
 use Rattle.arena_table.proofs.ReadLemmas.{placed-same, placed-beside}
 use Rattle.arena_hash.proofs.GrowLemmas.{made-placed, next-above}
@@ -25,50 +24,40 @@ returns-in_err-table-clause-made g c =
     let size : ℕ = slot_size g.K.Item.SIZE g.V.Item.SIZE in
     let align : ℕ = table_align g.K.Item.ALIGN g.V.Item.ALIGN in
     rw (e.1, e.2)
-    (made-placed size align c.args.a.now c.place.new.a c.args.self.now.table.block c.args.self.now.len
-    (next_slots c.args.self.now.table.slots) c.next_slots.result
-    (λ t. t.block) _ c.if-self.false c.next_slots.ensures c.in_err-table.ensures.asks)
+    (made-placed size align c.args.a.now _ c.args.self.now.table.block _ _ _ (λ t. t.block) _ c.if-self.false c.next_slots.ensures
+    c.in_err-table.ensures.asks)
 
 pub carry_all-requires-clause-held : goal.carry_all-requires-clause-held
 carry_all-requires-clause-held g c =
     let k = kind g.K.Item g.K.ArenaKey.key g.V.Item g.S.KeyHasher.hash_of in
     let t = c.in_ok-table.table in
     let made = c.in_ok-table.ensures in
-    let m = c.place.new.a.memory in
     let free = made.free ∙ ap (λ n. replicate n None) (sym made.slots) in
     record {
       handle = made.held;
-      table = free-table k (pair_hash k m c.args.self.now.hasher) t.slots (bytes_of m t.block) free;
+      table = free-table k _ _ _ free;
       texts = λ x h. absurd (none-there t.slots h.0 x (ap (λ s. slice_get s h.0) (sym free) ∙ h.1));
     }
 
 pub carry_all-requires-clause-room : goal.carry_all-requires-clause-room
 carry_all-requires-clause-room g c =
-    let k = kind g.K.Item g.K.ArenaKey.key g.V.Item g.S.KeyHasher.hash_of in
     let t = c.in_ok-table.table in
     let made = c.in_ok-table.ensures in
     let old = c.args.a.now.memory in
-    let m = c.place.new.a.memory in
-    let same = placed-same k old m t.block c.args.self.now.table c.args.self.now.hasher made.frame c.requires.held in
+    let same = placed-same _ _ _ t.block _ _ made.frame c.requires.held in
     let most = items-most (slots_in g.K.Item g.V.Item old c.args.self.now.table) in
     let next = next-above c.args.self.now.table.slots in
     rw (same, made.slots, c.next_slots.ensures) (omega (arith, most, c.requires.held.table.ordered.long, next))
 
 pub carry_all-requires-clause-from : goal.carry_all-requires-clause-from
 carry_all-requires-clause-from g c =
-    let k = kind g.K.Item g.K.ArenaKey.key g.V.Item g.S.KeyHasher.hash_of in
-    placed-beside k c.args.a.now.memory c.place.new.a.memory c.in_ok-table.table.block c.args.self.now.table c.args.self.now.hasher
-    c.in_ok-table.ensures.frame c.requires.held
+    placed-beside _ _ _ _ _ _ c.in_ok-table.ensures.frame c.requires.held
 
 pub returns-clause-moved : goal.returns-clause-moved
 returns-clause-moved g c =
-    let k = kind g.K.Item g.K.ArenaKey.key g.V.Item g.S.KeyHasher.hash_of in
-    let same = placed-same k c.args.a.now.memory c.place.new.a.memory c.in_ok-table.table.block c.args.self.now.table
-    c.args.self.now.hasher c.in_ok-table.ensures.frame c.requires.held in
+    let same = placed-same _ _ _ c.in_ok-table.table.block _ _ c.in_ok-table.ensures.frame c.requires.held in
     subst (λ s. Moved s (slots_in g.K.Item g.V.Item c.carry_all.new.a.memory c.in_ok-table.table)) same c.carry_all.ensures.moved
 
 pub returns-clause-frame : goal.returns-clause-frame
 returns-clause-frame g c =
-    frame_then c.args.a.now.memory c.place.new.a.memory c.carry_all.new.a.memory [] (c.in_ok-table.table.block ∷ [])
-    (c.in_ok-table.table.block ∷ [])
-    c.in_ok-table.ensures.frame c.carry_all.ensures.frame
+    frame_then _ _ _ _ _ _ c.in_ok-table.ensures.frame c.carry_all.ensures.frame

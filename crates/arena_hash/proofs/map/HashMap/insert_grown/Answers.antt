@@ -11,12 +11,10 @@ grown-requires-clause-held g c = map-table _ _ _ c.requires.held
 
 pub returns-in_err-self : goal.returns-in_err-self
 returns-in_err-self g c =
-    let k = kind g.K.Item g.K.ArenaKey.key g.V.Item g.S.KeyHasher.hash_of in
     let grown = c.in_err-self.ensures in
     let e = err_from_is_err_and c.from_residual.result c.from_residual.ensures.1 in
     rw (e.1, e.2)
-    (puts-refused k g.met.K.Item.layout g.met.V.Item.layout c.requires.keys_small c.requires.values_small c.args.a.now c.args.self.now
-    c.requires.held
+    (puts-refused _ g.met.K.Item.layout g.met.V.Item.layout c.requires.keys_small c.requires.values_small c.args.a.now _ c.requires.held
     c.args.key c.requires.lacks c.grown.new.a c.args.value is_value _ _ c.requires.full grown.made grown.err)
 
 pub settle-requires-clause-text : goal.settle-requires-clause-text
@@ -33,11 +31,7 @@ settle-requires-clause-hash g c =
 
 pub returns : goal.returns
 returns g c =
-    let k = kind g.K.Item g.K.ArenaKey.key g.V.Item g.S.KeyHasher.hash_of in
     let grown = c.in_ok-self.ensures in
-    puts-grown k g.met.K.Item.layout g.met.V.Item.layout c.requires.keys_small c.requires.values_small c.args.a.now c.args.self.now
-    c.requires.held
-    c.args.key c.requires.lacks c.grown.new.a c.settle.new.a c.in_ok-self.field-0 _ c.args.value is_value None c.requires.text
-    c.requires.full refl refl refl
-    grown.made grown.slots grown.moved grown.frame c.settle.ensures.places c.settle.ensures.frame c.settle.ensures.held
-    c.settle.ensures.settled refl
+    puts-grown _ g.met.K.Item.layout g.met.V.Item.layout c.requires.keys_small c.requires.values_small _ _ c.requires.held _
+    c.requires.lacks _ _ _ _ _ _ None c.requires.text c.requires.full refl refl refl grown.made grown.slots grown.moved grown.frame
+    c.settle.ensures.places c.settle.ensures.frame c.settle.ensures.held c.settle.ensures.settled refl

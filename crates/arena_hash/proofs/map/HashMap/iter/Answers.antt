@@ -1,4 +1,3 @@
-use Rattle.arena_table.specs.Contents.{kind}
 use Rattle.arena_table.proofs.WalkLemmas.{table-long}
 use Rattle.arena_hash.proofs.WalkLemmas.{map-lists, map-walk}
 use Rattle.arena_hash.proofs.map.HashMap.iter.Goals as goal
@@ -6,18 +5,14 @@ use Rattle.arena_hash.proofs.map.HashMap.iter.Goals as goal
 pub start-requires : goal.start-requires
 start-requires g c =
     record {
-      long = table-long g.K.Item g.V.Item c.args.a.now.memory c.args.self.now.table c.read-bytes.result.now c.requires.keys_small
-          c.requires.values_small
-          c.requires.held.handle c.read-bytes.ensures;
+      long = table-long _ _ _ _ _ c.requires.keys_small c.requires.values_small c.requires.held.handle c.read-bytes.ensures;
     }
 
 pub invariant_of-result : goal.invariant_of-result
 invariant_of-result g c =
-    map-walk (kind g.K.Item g.K.ArenaKey.key g.V.Item g.S.KeyHasher.hash_of) c.args.a.now.memory c.args.self.now c.read-bytes.result.now
-    c.requires.keys_small c.requires.values_small c.requires.held c.read-bytes.ensures c.start.result c.start.ensures.free
+    map-walk _ _ _ _ c.requires.keys_small c.requires.values_small c.requires.held c.read-bytes.ensures _ c.start.ensures.free
     c.start.ensures.scan
 
 pub returns : goal.returns
 returns g c =
-    map-lists (kind g.K.Item g.K.ArenaKey.key g.V.Item g.S.KeyHasher.hash_of) c.args.a.now.memory c.args.self.now c.read-bytes.result.now
-    c.requires.keys_small c.requires.values_small c.requires.held c.read-bytes.ensures c.start.result c.start.ensures.free
+    map-lists _ _ _ _ c.requires.keys_small c.requires.values_small c.requires.held c.read-bytes.ensures c.start.result c.start.ensures.free

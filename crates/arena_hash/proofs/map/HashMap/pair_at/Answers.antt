@@ -1,24 +1,17 @@
-use Rattle.std.proofs.Common.{◌≡◌, ℕ, ◌<◌, ◌∙◌, sym, ap, arith, Some}
-use Rattle.arena_items.specs.Values.{bytes_of}
+use Rattle.std.proofs.Common.{◌∙◌, sym, ap, arith, Some}
 use Rattle.arena_table.proofs.HandleLemmas.{handle-shape}
 use Rattle.arena_table.proofs.SlotLemmas.{slot-free, slot-taken}
 use Rattle.arena_hash.proofs.map.HashMap.pair_at.Goals as goal
 
-positive : (n : ℕ) → (n ≡ 0 → ⊥) → 0 < n
-positive n h = grind (arith, h)
-
 pub bounds-bytes-slot : goal.bounds-bytes-slot
 bounds-bytes-slot g c =
-    let shape = handle-shape g.K.Item g.V.Item c.args.a.now.memory c.args.self.now.table c.requires.keys_small c.requires.values_small
-    c.requires.handle (omega arith) in
+    let shape = handle-shape _ _ _ _ c.requires.keys_small c.requires.values_small c.requires.handle (omega arith) in
     rw c.read-bytes.ensures (omega (arith, shape.long, c.requires.index))
 
 pub returns-then-bytes-slot-eq0 : goal.returns-then-bytes-slot-eq0
 returns-then-bytes-slot-eq0 g c =
-    let shape = handle-shape g.K.Item g.V.Item c.args.a.now.memory c.args.self.now.table c.requires.keys_small c.requires.values_small
-    c.requires.handle (omega arith) in
-    slot-free g.K.Item g.V.Item c.args.self.now.table.slots (bytes_of c.args.a.now.memory c.args.self.now.table.block) shape c.args.slot
-    c.requires.index (rw c.read-bytes.ensures at c.if-bytes-slot-eq0.true)
+    let shape = handle-shape _ _ _ _ c.requires.keys_small c.requires.values_small c.requires.handle (omega arith) in
+    slot-free _ _ _ _ shape c.args.slot c.requires.index (rw c.read-bytes.ensures at c.if-bytes-slot-eq0.true)
 
 pub key_at-requires-clause-shape : goal.key_at-requires-clause-shape
 key_at-requires-clause-shape g c = rw c.read-bytes.ensures (handle-shape g.K.Item g.V.Item c.args.a.now.memory c.args.self.now.table
@@ -30,10 +23,9 @@ value_at-requires-clause-shape g c = rw c.read-bytes.ensures (handle-shape g.K.I
 
 pub returns : goal.returns
 returns g c =
-    let shape = handle-shape g.K.Item g.V.Item c.args.a.now.memory c.args.self.now.table c.requires.keys_small c.requires.values_small
-    c.requires.handle (omega arith) in
-    let taken = slot-taken g.K.Item g.V.Item c.args.self.now.table.slots (bytes_of c.args.a.now.memory c.args.self.now.table.block) shape
-    c.args.slot c.requires.index (positive _ (rw c.read-bytes.ensures at c.if-bytes-slot-eq0.false)) in
+    let shape = handle-shape _ _ _ _ c.requires.keys_small c.requires.values_small c.requires.handle (omega arith) in
+    let taken = slot-taken _ _ _ _ shape c.args.slot c.requires.index
+    (grind (arith, rw c.read-bytes.ensures at c.if-bytes-slot-eq0.false)) in
     let key = (rw c.read-bytes.ensures at c.key_at.ensures) taken.0 taken.1 in
     let value = (rw c.read-bytes.ensures at c.value_at.ensures) taken.0 taken.1 in
     taken.1 ∙ ap (λ p. Some (Some p)) (λ i. (sym key i, sym value i))

@@ -1,6 +1,4 @@
 use Rattle.std.proofs.Common.{arith, ap, refl, Some}
-use Rattle.arena_table.specs.Contents.{kind}
-use Rattle.arena_hash.specs.Changes.{is_value}
 use Rattle.arena_hash.proofs.CallLemmas.{takes-out, takes-none}
 use Rattle.arena_hash.proofs.MapLemmas.{map-table, taken-within}
 use Rattle.arena_hash.proofs.map.HashMap.remove.Goals as goal
@@ -21,17 +19,12 @@ close-requires-clause-taken g c = let x = rw c.in-Taken.is at c.look.ensures.end
 
 pub returns-in-Taken : goal.returns-in-Taken
 returns-in-Taken g c =
-    let k = kind g.K.Item g.K.ArenaKey.key g.V.Item g.S.KeyHasher.hash_of in
     let x = rw c.in-Taken.is at c.look.ensures.ends in
-    takes-out k g.met.K.Item.layout g.met.V.Item.layout c.requires.keys_small c.requires.values_small c.args.a.now c.close.new.a
-    c.args.self.now
-    c.requires.held c.args.key c.in-Taken.at x.0 x.1 x.2 c.close.ensures.places c.close.ensures.frame _ is_value _ refl refl
-    (omega (arith, c.close.ensures.closed.count, c.requires.held.count)) c.close.ensures.held c.close.ensures.closed
-    (ap Some (c.value-value.ensures x.0 x.1))
+    takes-out _ g.met.K.Item.layout g.met.V.Item.layout c.requires.keys_small c.requires.values_small _ _ _ c.requires.held _ _ x.0 x.1 x.2
+    c.close.ensures.places c.close.ensures.frame _ _ _ refl refl (omega (arith, c.close.ensures.closed.count, c.requires.held.count))
+    c.close.ensures.held c.close.ensures.closed (ap Some (c.value-value.ensures x.0 x.1))
 
 pub returns-in-Open : goal.returns-in-Open
 returns-in-Open g c =
-    let k = kind g.K.Item g.K.ArenaKey.key g.V.Item g.S.KeyHasher.hash_of in
-    takes-none k g.met.K.Item.layout g.met.V.Item.layout c.requires.keys_small c.requires.values_small c.args.a.now c.args.self.now
-    c.requires.held
-    c.args.key (rw c.in-Open.is at c.look.ensures.ends).0 is_value _ refl
+    takes-none _ g.met.K.Item.layout g.met.V.Item.layout c.requires.keys_small c.requires.values_small _ _ c.requires.held _
+    (rw c.in-Open.is at c.look.ensures.ends).0 _ _ refl

@@ -1,6 +1,5 @@
 use Rattle.std.proofs.Common.{◌<◌, Some, arith}
 use Rattle.std.proofs.lemmas.Option.{slice_get_within}
-use Rattle.arena_table.specs.Contents.{kind}
 use Rattle.arena_table.specs.Tables.{slots_in, IsShape}
 use Rattle.arena_table.proofs.ChangedLemmas.{changed-slots, changed-table}
 use Rattle.arena_table.proofs.HandleLemmas.{handle-shape, given-whole}
@@ -21,25 +20,21 @@ write_with-requires-clause-suits g c =
 
 pub returns-clause-held : goal.returns-clause-held
 returns-clause-held g c =
-    let k = kind g.K.Item g.K.ArenaKey.key g.V.Item g.S.KeyHasher.hash_of in
     let m = c.args.a.now.memory in
     let t = c.args.self.now.table in
     let taken = c.requires.taken in
     let some : 0 < t.slots =
     omega (arith, slice_get_within (slots_in g.K.Item g.V.Item m t) c.args.at (Some taken.0) taken.1, c.requires.held.table.ordered.long) in
-    changed-table k m c.write_with.new.self.memory c.args.self.now.hasher t c.requires.keys_small c.requires.values_small c.requires.held
-    some c.args.at
-    c.args.value taken.0 taken.1 c.write_with.ensures.edits
+    changed-table _ _ _ _ _ c.requires.keys_small c.requires.values_small c.requires.held some c.args.at c.args.value taken.0 taken.1
+    c.write_with.ensures.edits
 
 pub returns-clause-replaced : goal.returns-clause-replaced
 returns-clause-replaced g c = λ x there.
-    let k = kind g.K.Item g.K.ArenaKey.key g.V.Item g.S.KeyHasher.hash_of in
     let m = c.args.a.now.memory in
     let t = c.args.self.now.table in
     let some : 0 < t.slots =
     omega (arith, slice_get_within (slots_in g.K.Item g.V.Item m t) c.args.at (Some x) there, c.requires.held.table.ordered.long) in (
       c.value-old.ensures x there,
-      changed-slots k m c.write_with.new.self.memory c.args.self.now.hasher t c.requires.keys_small c.requires.values_small
-          c.requires.held some c.args.at
-          c.args.value x there c.write_with.ensures.edits,
+      changed-slots _ _ _ _ _ c.requires.keys_small c.requires.values_small c.requires.held some c.args.at c.args.value x there
+          c.write_with.ensures.edits,
     )

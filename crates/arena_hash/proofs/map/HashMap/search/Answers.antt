@@ -23,10 +23,9 @@ value_at-requires-clause-shape g c =
 
 pub returns-in-Taken-clause-value : goal.returns-in-Taken-clause-value
 returns-in-Taken-clause-value g c =
-    let k = kind g.K.Item g.K.ArenaKey.key g.V.Item g.S.KeyHasher.hash_of in
     let x = rw c.in-Taken.is at c.look_by-look.ensures.ends in
     ap Some ((rw c.read-bytes.ensures at c.value_at.ensures) x.0 x.1)
-    ∙ sym (ap value_of (found-under k c.args.a.now.memory c.args.self.now c.in-Taken.at x.0 _ c.requires.held x.1 x.2))
+    ∙ sym (ap value_of (found-under _ _ _ c.in-Taken.at x.0 _ c.requires.held x.1 x.2))
 
 pub returns-in-Open-clause-value : goal.returns-in-Open-clause-value
 returns-in-Open-clause-value g c =

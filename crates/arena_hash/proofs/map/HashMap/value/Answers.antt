@@ -4,5 +4,4 @@ use Rattle.arena_hash.proofs.map.HashMap.value.Goals as goal
 
 pub value_at-requires-clause-shape : goal.value_at-requires-clause-shape
 value_at-requires-clause-shape g c = rw c.read.ensures
-    (handle-shape g.K.Item g.V.Item c.args.a.now.memory c.args.self.now.table c.requires.keys_small c.requires.values_small
-    c.requires.handle (omega arith))
+    (handle-shape _ _ _ _ c.requires.keys_small c.requires.values_small c.requires.handle (omega arith))

@@ -8,9 +8,7 @@ use Rattle.arena_hash.proofs.map.HashMap.with_capacity_and_hasher_in.Goals as go
 
 pub returns-then-capacity-eq0-clause-placed : goal.returns-then-capacity-eq0-clause-placed
 returns-then-capacity-eq0-clause-placed g c =
-    places-none (kind g.K.Item g.K.ArenaKey.key g.V.Item g.S.KeyHasher.hash_of) g.met.K.Item.layout g.met.V.Item.layout
-    c.requires.keys_small
-    c.requires.values_small c.args.a.now c.args.capacity c.args.hasher c.with_hasher_in.result c.if-capacity-eq0.true
+    places-none _ g.met.K.Item.layout g.met.V.Item.layout c.requires.keys_small c.requires.values_small _ _ _ _ c.if-capacity-eq0.true
     c.with_hasher_in.ensures
 
 pub place-requires-clause-ring : goal.place-requires-clause-ring
@@ -21,15 +19,12 @@ returns-in_err-table-clause-placed g c =
     let e = err_from_is_err_and c.from_residual.result c.from_residual.ensures.1 in
     rw (e.1, e.2)
     (places-refused (kind g.K.Item g.K.ArenaKey.key g.V.Item g.S.KeyHasher.hash_of) g.met.K.Item.layout g.met.V.Item.layout
-    c.requires.keys_small
-    c.requires.values_small c.args.a.now c.place.new.a c.args.capacity c.slots_for.result (omega arith) (omega arith) c.slots_for.ensures _
-    c.in_err-table.ensures.asks c.in_err-table.ensures.err)
+    c.requires.keys_small c.requires.values_small c.args.a.now _ c.args.capacity c.slots_for.result (omega arith) (omega arith)
+    c.slots_for.ensures _ c.in_err-table.ensures.asks c.in_err-table.ensures.err)
 
 pub returns-clause-placed : goal.returns-clause-placed
 returns-clause-placed g c =
     let m : HashMap g.row.K.Denot g.row.V.Denot g.row.S.Denot = record { table = c.in_ok-table.table; len = 0; hasher = c.args.hasher } in
     let placed = c.in_ok-table.ensures in
-    places-table (kind g.K.Item g.K.ArenaKey.key g.V.Item g.S.KeyHasher.hash_of) g.met.K.Item.layout g.met.V.Item.layout
-    c.requires.keys_small
-    c.requires.values_small c.args.a.now c.place.new.a c.args.capacity c.slots_for.result (omega arith) (omega arith) c.slots_for.ensures m
-    placed.slots refl placed.asks placed.held placed.free placed.frame
+    places-table _ g.met.K.Item.layout g.met.V.Item.layout c.requires.keys_small c.requires.values_small _ _ _ _ (omega arith) (omega arith)
+    c.slots_for.ensures m placed.slots refl placed.asks placed.held placed.free placed.frame

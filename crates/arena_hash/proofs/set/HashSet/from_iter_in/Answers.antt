@@ -1,16 +1,14 @@
 use Rattle.std.proofs.Common.{[], ◌∷◌, map}
 use Rattle.std.proofs.lemmas.Result.{err_from_is_err_and}
 use Rattle.arena_chunks.proofs.Layers.{frame_keeps}
-use Rattle.arena_hash.specs.Sets.{set_kind, StepsInPairs}
+use Rattle.arena_hash.specs.Sets.{StepsInPairs}
 use Rattle.arena_hash.proofs.CollectLemmas.{collecting-none, collecting-more, collecting-refused, collecting-all}
 use Rattle.arena_hash.proofs.SetLemmas.{items-yielded}
 use Rattle.arena_hash.proofs.set.HashSet.from_iter_in.Goals as goal
 
 pub loop-item-init : goal.loop-item-init
 loop-item-init g c =
-    collecting-none (set_kind g.T.Item g.T.ArenaKey.key g.S.KeyHasher.hash_of) (StepsInPairs g.I.Iterator.next_gives) c.args.iter
-    c.args.a.now
-    c.new_in-map.result c.new_in-map.ensures.map
+    collecting-none _ (StepsInPairs g.I.Iterator.next_gives) _ _ _ c.new_in-map.ensures.map
 
 pub insert-requires-clause-text : goal.insert-requires-clause-text
 insert-requires-clause-text g c =
@@ -31,25 +29,18 @@ insert-requires-clause-apart g c =
 pub loop-item-preserved : goal.loop-item-preserved
 loop-item-preserved g c =
     let so_far = c.loop-item.invariant in
-    let gave = items-yielded g.I.Iterator.next_gives c.args.iter so_far.pairs c.loop-item.iter so_far.yields in
-    collecting-more (set_kind g.T.Item g.T.ArenaKey.key g.S.KeyHasher.hash_of) (StepsInPairs g.I.Iterator.next_gives) c.args.iter
-    c.loop-item.iter
-    c.next.new.self c.args.a.now c.loop-item.a c.insert.new.a c.loop-item.map c.insert.new.self (c.in-Some.item, tt) c.loop-item.invariant
-    c.in-Some.ensures.steps
-    (c.requires.texts (map (λ p. p.0) so_far.pairs) c.loop-item.iter c.next.new.self c.in-Some.item gave c.in-Some.ensures.steps)
-    _ c.in_ok-insert.ensures
+    let gave = items-yielded g.I.Iterator.next_gives _ _ _ so_far.yields in
+    collecting-more _ (StepsInPairs g.I.Iterator.next_gives) _ _ _ _ _ _ _ _ (c.in-Some.item, tt) c.loop-item.invariant
+    c.in-Some.ensures.steps (c.requires.texts (map (λ p. p.0) so_far.pairs) c.loop-item.iter c.next.new.self c.in-Some.item gave
+    c.in-Some.ensures.steps) _ c.in_ok-insert.ensures
 
 pub returns-in_err-insert-clause-refused : goal.returns-in_err-insert-clause-refused
 returns-in_err-insert-clause-refused g c =
     let p = err_from_is_err_and c.from_residual.result c.from_residual.ensures.1 in
     rw (p.1, p.2)
-    (collecting-refused (set_kind g.T.Item g.T.ArenaKey.key g.S.KeyHasher.hash_of) (StepsInPairs g.I.Iterator.next_gives) c.args.iter
-    c.loop-item.iter
-    c.next.new.self c.args.a.now c.loop-item.a c.insert.new.a c.loop-item.map c.insert.new.self (c.in-Some.item, tt) c.loop-item.invariant
+    (collecting-refused _ (StepsInPairs g.I.Iterator.next_gives) _ _ c.next.new.self _ _ _ _ _ (c.in-Some.item, tt) c.loop-item.invariant
     c.in-Some.ensures.steps _ c.in_err-insert.ensures)
 
 pub returns-clause-collects : goal.returns-clause-collects
 returns-clause-collects g c =
-    collecting-all (set_kind g.T.Item g.T.ArenaKey.key g.S.KeyHasher.hash_of) (StepsInPairs g.I.Iterator.next_gives) c.args.iter
-    c.loop-item.iter c.next.new.self
-    c.args.a.now c.loop-item.a c.loop-item.map c.loop-item.invariant (rw c.in_default.is at c.next.ensures.steps)
+    collecting-all _ _ _ _ c.next.new.self _ _ _ c.loop-item.invariant (rw c.in_default.is at c.next.ensures.steps)

@@ -10,8 +10,7 @@ use Rattle.arena_hash.proofs.set.HashSet.insert.Goals as goal
 pub returns-in_err-old : goal.returns-in_err-old
 returns-in_err-old g c =
     let e = err_from_is_err_and c.from_residual.result c.from_residual.ensures.1 in
-    rw (e.1, e.2) (puts-refused-as (set_kind g.T.Item g.T.ArenaKey.key g.S.KeyHasher.hash_of) c.args.a.now c.insert.new.a
-    c.args.self.now.map c.args.item tt is_value is_new c.insert.new.self _ c.in_err-old.ensures)
+    rw (e.1, e.2) (puts-refused-as _ _ _ _ _ _ _ is_new _ _ c.in_err-old.ensures)
 
 pub returns : goal.returns
 returns g c =

@@ -8,29 +8,23 @@ step-slot-requires-clause-groups g c = walk-groups g.K.Item g.V.Item c.self.insi
 
 pub overflow_sub-self : goal.overflow_sub-self
 overflow_sub-self g c =
-    let s = c.self.inside in
-    walk-some g.K.Item g.V.Item s.slots s.bytes.now s.scan s.left c.self.invariant c.step-slot.result.1 c.step-slot.ensures.scan c.in-Some.i
+    walk-some _ _ _ _ _ _ c.self.invariant _ c.step-slot.ensures.scan _
     (MatchOption-at_some _ _ c.in-Some.i c.in-Some.is c.step-slot.ensures.goes)
 
 pub invariant_of-self : goal.invariant_of-self
 invariant_of-self g c =
-    let s = c.self.inside in
-    walk-less g.K.Item g.V.Item s.slots s.bytes.now s.scan s.left c.self.invariant c.step-slot.result.1 c.step-slot.ensures.scan c.in-Some.i
+    walk-less _ _ _ _ _ _ c.self.invariant _ c.step-slot.ensures.scan _
     (MatchOption-at_some _ _ c.in-Some.i c.in-Some.is c.step-slot.ensures.goes)
 
 pub invariant_of-self-in-None : goal.invariant_of-self-in-None
 invariant_of-self-in-None g c =
-    let s = c.self.inside in
     let ends = MatchOption-at_none _ _ c.in-None.is c.step-slot.ensures.goes in
-    (walk-ended g.K.Item g.V.Item s.slots s.bytes.now s.scan s.left c.self.invariant c.step-slot.result.1 c.step-slot.ensures.scan ends.0
-    ends.1).0
+    (walk-ended _ _ _ _ _ _ c.self.invariant _ c.step-slot.ensures.scan ends.0 ends.1).0
 
 pub returns-in-Some-clause-steps : goal.returns-in-Some-clause-steps
 returns-in-Some-clause-steps g c =
-    let s = c.self.inside in
     sym c.self.view_is
-    ∙ walk-read g.K.Item g.V.Item s.slots s.bytes.now s.scan s.left c.self.invariant c.step-slot.result.1 c.step-slot.ensures.scan
-    c.in-Some.i
+    ∙ walk-read _ _ _ _ _ _ c.self.invariant _ c.step-slot.ensures.scan _
     (MatchOption-at_some _ _ c.in-Some.i c.in-Some.is c.step-slot.ensures.goes) c.key_at.result c.value_at.result c.key_at.ensures
     c.value_at.ensures
 
@@ -40,8 +34,6 @@ returns-in-Some-clause-goes g c =
 
 pub returns-in-None-clause-steps : goal.returns-in-None-clause-steps
 returns-in-None-clause-steps g c =
-    let s = c.self.inside in
     let ends = MatchOption-at_none _ _ c.in-None.is c.step-slot.ensures.goes in
-    let both = walk-ended g.K.Item g.V.Item s.slots s.bytes.now s.scan s.left c.self.invariant c.step-slot.result.1
-    c.step-slot.ensures.scan ends.0 ends.1 in
+    let both = walk-ended _ _ _ _ _ _ c.self.invariant _ c.step-slot.ensures.scan ends.0 ends.1 in
     (sym c.self.view_is ∙ both.1, both.2)
