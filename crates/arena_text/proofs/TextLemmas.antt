@@ -60,11 +60,7 @@ long m t held = length-bytes (image m) t.block.addr t.block.size ∙ held.place.
 held_still : (old new : View) (t : StringBuilder) (n : ℕ) → IsBuilderIn old.memory t → n ≤ t.cap → SamePlaces old new
     → IsBuilderIn new.memory (record t { len = n })
 held_still old new t n held within same = record {
-  place = record {
-    readable = rw same.state held.place.readable;
-    of_size = held.place.of_size;
-    of_align = held.place.of_align;
-  };
+  place = rw same.state held.place;
   within = within;
 }
 
@@ -127,10 +123,9 @@ module _ (old mid : View) (t : StringBuilder) (growth : Growth) where
         → Grows old new t growth (builder_bytes old.memory t ++ list)
         (record { block = u.block; len = u.len + length list; cap = u.cap }) (Ok tt)
     pushed new list room writes source =
-        grows new (u.len + length list) (builder_bytes old.memory t ++ list) room (wrote_same mid new u.block u.len list writes source)
-        writes.frame (ap (take (u.len + length list)) (spliced mid new u u.len list grown.held room writes)
-        ∙ front_then u.len (bytes_of mid.memory u.block) list (omega (arith, long mid.memory u grown.held))
-        ∙ ap (λ bs. bs ++ list) grown.bytes_are)
+        grows _ (u.len + length list) _ room (wrote_same mid new u.block u.len list writes source) writes.frame
+        (ap (take (u.len + length list)) (spliced mid new _ _ _ grown.held room writes) ∙ front_then u.len (bytes_of mid.memory u.block)
+        list (omega (arith, long _ _ grown.held)) ∙ ap (λ bs. bs ++ list) grown.bytes_are)
 
     -- All bytes were moved up by one, and one was written before them.
     pub pushed_below : (two new : View) (byte : ℕ) → u.len + 1 ≤ u.cap
@@ -142,13 +137,12 @@ module _ (old mid : View) (t : StringBuilder) (growth : Growth) where
         let sized = length-bytes (image mid.memory) (u.block.addr + 0) u.len in
         let same = same_then mid two new (wrote_same mid two u.block 1 _ moves one) (wrote_same two new u.block 0 _ writes other) in
         let front = bytes_within (image mid.memory) u.block.addr u.block.size 0 u.len (omega (arith, room, grown.held.place.of_size)) in
-        let moved = spliced mid two u 1 _ grown.held (omega (arith, sized, room)) moves in
-        let still = held_still mid two u u.len grown.held grown.held.within (wrote_same mid two u.block 1 _ moves one) in
-        let put = spliced two new u 0 _ still (omega (arith, room)) writes in
-        grows new (u.len + 1) (byte ∷ builder_bytes old.memory t) room same
-        (frame_then mid.memory two.memory new.memory (u.block ∷ []) (u.block ∷ []) (u.block ∷ []) moves.frame writes.frame)
-        (ap (take (u.len + 1)) (put ∙ ap (λ l. splice l 0 (byte ∷ [])) (moved ∙ ap (splice bs 1) (sym front)))
-        ∙ front_below u.len byte bs (omega (arith, room, long mid.memory u grown.held)) ∙ ap (λ bs. byte ∷ bs) grown.bytes_are)
+        let moved = spliced mid two _ _ _ grown.held (omega (arith, sized, room)) moves in
+        let still = held_still _ _ _ u.len grown.held grown.held.within (wrote_same mid two u.block 1 _ moves one) in
+        let put = spliced two new _ _ _ still (omega (arith, room)) writes in
+        grows _ (u.len + 1) _ room same (frame_then mid.memory two.memory new.memory (u.block ∷ []) (u.block ∷ []) (u.block ∷ [])
+        moves.frame writes.frame) (ap (take (u.len + 1)) (put ∙ ap (λ l. splice l 0 (byte ∷ [])) (moved ∙ ap (splice bs 1) (sym front))) ∙
+        front_below u.len byte bs (omega (arith, room, long _ _ grown.held)) ∙ ap (λ bs. byte ∷ bs) grown.bytes_are)
 
   -- There was no room.
   pub refused : (list : List ℕ) (e : AllocError) → IsBuilderIn old.memory t

@@ -26,7 +26,6 @@ loop-s-preserved g c =
     let inv = c.loop-s.invariant in
     let writes = rw (c.as_bytes.ensures.value, c.as_str-text.ensures) at c.write.ensures.writes in
     let text = rw (c.as_bytes.ensures.value, c.as_str-text.ensures) at c.as_bytes.ensures.utf8 in
-    let one = one_more g.T.AsStr.text c.args.strings.now c.loop-s.s-index c.s-item.result _ _ _ c.args.block c.loop-s.at (omega arith)
-    c.s-item.is inv.end inv.writes writes in
-    let utf8 = utf8_more g.T.AsStr.text c.args.strings.now c.loop-s.s-index c.s-item.result (omega arith) c.s-item.is inv.utf8 text in
+    let one = one_more g.T.AsStr.text c.args.strings.now c.loop-s.s-index _ _ _ _ _ _ (omega arith) c.s-item.is inv.end inv.writes writes in
+    let utf8 = utf8_more g.T.AsStr.text c.args.strings.now c.loop-s.s-index _ (omega arith) c.s-item.is inv.utf8 text in
     record { end = rw c.as_str-text.ensures one.1; writes = one.0; utf8 = utf8; source = c.write.ensures.source ∙ inv.source }
