@@ -1,6 +1,7 @@
 -- A slot of a table's bytes is freed, and the gap is closed.
 use Rattle.std.proofs.Common.{◌≡◌, ℕ, ◌+◌, ◌-◌, ◌%◌, ◌<◌, ◌≤◌, ◌⊎◌, inl, inr, List, length, get_or, refl, sym, ap, subst, ◌∙◌, arith}
 use Rattle.std.proofs.Common.{Some, None}
+use Rattle.std.proofs.lemmas.Bool.{cases_lt}
 use Rattle.std.specs.Prelude.{slice_get}
 use Rattle.arena_items.specs.declared.item.Item.{Ghosts}
 use Rattle.hash_ring.specs.Slots.{spot, items, IsAway, Closed}
@@ -46,23 +47,17 @@ module _ (n : ℕ) (bytes : List ℕ) (start : ℕ) (begun : start < n) where
     -- the gap is closed here
     pub near-stop : get_or bytes next 0 < 32 → IsNear n bytes start
     near-stop low = record {
-      near = λ e m run. elim (order e k) [
+      near = λ e m run. elim (cases_lt e k) [
         | inl b ↦ s.near e b m
-        | inr b ↦ elim (zero-or (e - k)) [
-          | inl z ↦ (
+        | inr b ↦ elim (cases_lt k e) [
+          | inl z ↦ absurd (omega (arith, low, subst (λ p. 32 ≤ get_or bytes p 0) (sym here) (run k z)))
+          | inr z ↦ (
               let same : e ≡ k = omega arith in
               let low' = subst (λ p. get_or bytes p 0 < 32) (here ∙ ap (λ j. spot n start (j + 1)) (sym same)) low in
               omega (arith, low'))
-          | inr z ↦ absurd (omega (arith, low, subst (λ p. 32 ≤ get_or bytes p 0) (sym here) (run k (omega arith))))
         ]
       ];
     }
-      where
-        order : (a b : ℕ) → (a < b) ⊎ (b ≤ a)
-        order a b = grind arith
-
-        zero-or : (m : ℕ) → (m ≡ 0) ⊎ (0 < m)
-        zero-or m = grind arith
 
 -- ---- The gap
 
@@ -185,8 +180,5 @@ module _ {K V : Type 0} (keys : Ghosts K) (values : Ghosts V) (n start : ℕ) (f
       long = s.long;
       closes = λ hash x table there room.
           let w = s.walk hash x table there room in
-          absurd (omega (
-            arith,
-            closing-less _ _ (homes hash) _ _ _ _ _ begun w.0 room,
-          ));
+          absurd (omega (arith, closing-less _ _ (homes hash) _ _ _ _ _ begun w.0 room));
     }
