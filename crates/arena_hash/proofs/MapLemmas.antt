@@ -17,7 +17,7 @@ use Rattle.hash_ring.proofs.Once.{are_once, is_once}
 use Rattle.hash_ring.proofs.Places.{put-cases}
 use Rattle.hash_ring.proofs.Under.{has-under, lacks-under, under-moved, under-settled, under-closed, once-value, under-value}
 use Rattle.arena_table.specs.Contents.{Kind, content_in}
-use Rattle.arena_table.specs.Tables.{slots_in, HasFree, IsTableIn, IsTextBeside}
+use Rattle.arena_table.specs.Tables.{slots_in, IsTableIn, IsTextBeside}
 use Rattle.arena_hash.specs.Maps.{IsMapIn, map_in, pairs_in}
 use Rattle.arena_hash.specs.declared.map.HashMap.{HashMap}
 use Rattle.arena_hash.proofs.Beside.{texts-beside, texts-readable, texts-apart}

@@ -2,7 +2,7 @@ use Rattle.std.proofs.Common.{ℕ, ◌<◌, sym, ap, subst, ◌∙◌, arith, No
 use Rattle.std.specs.Prelude.{slice_get}
 use Rattle.std.proofs.lemmas.Result.{err_from_is_err_and}
 use Rattle.arena_chunks.proofs.Layers.{frame_then}
-use Rattle.hash_ring.specs.Policy.{next_slots, slot_size, table_align, most_pairs}
+use Rattle.hash_ring.specs.Policy.{slot_size, table_align, most_pairs}
 use Rattle.hash_ring.specs.Slots.{Moved}
 use Rattle.hash_ring.proofs.Count.{items-most, none-there}
 use Rattle.hash_ring.proofs.PolicyLemmas.{next-ring}
