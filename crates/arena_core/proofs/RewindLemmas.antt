@@ -23,6 +23,19 @@ use Rattle.arena_store.proofs.TableLemmas.{chunks_in}
 use Rattle.arena_core.proofs.StoredLemmas.{kind, view_with, view_of, Stands}
 
 module _ (m : ℕ) (a : Inside m) (memory : Memory) where
+  -- if there are chunks, they are the newest and those of the table
+  counted : (n : ℕ) → Stands m a → view_of m a ≡ memory → 0 < n → n ≤ length memory.state.chunks
+      → ((a.newest.base == 16) ≡ false) × (length memory.state.chunks ≡ suc (length a.older.items))
+  counted n stands view some within =
+      let same = ap (λ (w : Memory). length w.state.chunks) view in
+      elim (kind m a stands) [
+        | inl none ↦ absurd (omega (arith, some, within, same, empty none.0))
+        | inr chunk ↦ (chunk, sym same ∙ rw chunk (length-map (a.newest ∷ a.older.items) stored_chunk))
+      ]
+    where
+      empty : (a.newest.base == 16) ≡ true → length (view_of m a).state.chunks ≡ 0
+      empty none = rw none refl
+
   pub record IsFirst (n : ℕ) (newest : StoredChunk) (older : List StoredChunk) : Type 0 where
     pub view : view_with m a newest older ≡ with_first n memory
     pub stored : IsStored (view_with m a newest older) newest older
@@ -32,48 +45,43 @@ module _ (m : ℕ) (a : Inside m) (memory : Memory) where
   pub first_kept : (n : ℕ) (newest : StoredChunk) (older : List StoredChunk) → Stands m a → view_of m a ≡ memory → 0 < n
       → n ≤ length memory.state.chunks → (n ≡ length memory.state.chunks → ⊥)
       → oldest n a.older.items ≡ newest ∷ older → IsFirst n newest older
-  first_kept n newest older stands view some within other is = elim (kind m a stands) [
-    | inl none ↦ absurd (omega (arith, some, within, ap (λ (w : Memory). length w.state.chunks) view, empty none.0))
-    | inr chunk ↦
-        let all : List StoredChunk = a.newest ∷ a.older.items in
-        let count : length memory.state.chunks ≡ suc (length a.older.items) = sym (ap (λ (w : Memory). length w.state.chunks) view)
-        ∙ rw chunk (length-map all stored_chunk) in
-        let fits : n ≤ length a.older.items = omega (arith, within, count, far count) in
-        let back : length all - n ≡ suc (length a.older.items - n) = omega (arith, fits) in
-        let split : drop (length all - n) all ≡ newest ∷ older = ap (λ (k : ℕ). drop k all) back ∙ is in
-        let ready : All IsReady (newest ∷ older) = subst (All IsReady) is
-        (All-drop IsReady (length a.older.items - n) a.older.items stands.older_ready) in
-        let state : IsValid (view_of m a).state = stands.valid in
-        let first = first_valid n (view_of m a).state state (λ none. absurd (omega (arith, some, none))) in
-        let chunks : first_chunks n (view_of m a).state.chunks ≡ chunks_in (newest ∷ older) =
-        rw chunk (ap (λ (k : ℕ). drop (k - n) (map stored_chunk all)) (length-map all stored_chunk)
-        ∙ drop-map stored_chunk (length all - n) all ∙ ap (map stored_chunk) split) in
-        let lists : first_bytes n (view_of m a).bytes ≡ map stored_bytes (newest ∷ older) =
-        rw chunk (ap (λ (k : ℕ). drop (k - n) (map stored_bytes all)) (length-map all stored_bytes)
-        ∙ drop-map stored_bytes (length all - n) all ∙ ap (map stored_bytes) split) in
-        let fine : AreChunks m (chunks_in (newest ∷ older)) = subst (AreChunks m) chunks first.chunks in
-        let high : 4096 ≤ newest.base = omega (arith, fine.1, floor_least m (chunks_in older) fine.2) in
-        let test : (newest.base == 16) ≡ false = grind (arith, nat_tests) in
-        let same : view_with m a newest older ≡ with_first n (view_of m a) = rw test (λ i. record {
-          state = record (view_of m a).state { chunks = sym chunks i };
-          statistics = (view_of m a).statistics;
-          bytes = sym lists i;
-        }) in
-        record {
-          high = high;
-          view = subst (λ (w : Memory). view_with m a newest older ≡ with_first n w) view same;
-          stored = record {
-            valid = subst (λ (w : Memory). IsValid w.state) (sym same) first;
-            none = λ is. absurd (omega (arith, is, high));
-            ready = All-head IsReady newest older ready;
-            older_ready = All-tail IsReady newest older ready;
-          };
-        }
-  ]
+  first_kept n newest older stands view some within other is =
+      let all : List StoredChunk = a.newest ∷ a.older.items in
+      let here = counted n stands view some within in
+      let chunk = here.0 in
+      let count = here.1 in
+      let fits : n ≤ length a.older.items = omega (arith, within, count, far count) in
+      let back : length all - n ≡ suc (length a.older.items - n) = omega (arith, fits) in
+      let split : drop (length all - n) all ≡ newest ∷ older = ap (λ (k : ℕ). drop k all) back ∙ is in
+      let ready : All IsReady (newest ∷ older) = subst (All IsReady) is
+      (All-drop IsReady (length a.older.items - n) a.older.items stands.older_ready) in
+      let state : IsValid (view_of m a).state = stands.valid in
+      let first = first_valid n (view_of m a).state state (λ none. absurd (omega (arith, some, none))) in
+      let chunks : first_chunks n (view_of m a).state.chunks ≡ chunks_in (newest ∷ older) =
+      rw chunk (ap (λ (k : ℕ). drop (k - n) (map stored_chunk all)) (length-map all stored_chunk)
+      ∙ drop-map stored_chunk (length all - n) all ∙ ap (map stored_chunk) split) in
+      let lists : first_bytes n (view_of m a).bytes ≡ map stored_bytes (newest ∷ older) =
+      rw chunk (ap (λ (k : ℕ). drop (k - n) (map stored_bytes all)) (length-map all stored_bytes)
+      ∙ drop-map stored_bytes (length all - n) all ∙ ap (map stored_bytes) split) in
+      let fine : AreChunks m (chunks_in (newest ∷ older)) = subst (AreChunks m) chunks first.chunks in
+      let high : 4096 ≤ newest.base = omega (arith, fine.1, floor_least m (chunks_in older) fine.2) in
+      let test : (newest.base == 16) ≡ false = grind (arith, nat_tests) in
+      let same : view_with m a newest older ≡ with_first n (view_of m a) = rw test (λ i. record {
+        state = record (view_of m a).state { chunks = sym chunks i };
+        statistics = (view_of m a).statistics;
+        bytes = sym lists i;
+      }) in
+      record {
+        high = high;
+        view = subst (λ (w : Memory). view_with m a newest older ≡ with_first n w) view same;
+        stored = record {
+          valid = subst (λ (w : Memory). IsValid w.state) (sym same) first;
+          none = λ is. absurd (omega (arith, is, high));
+          ready = All-head IsReady newest older ready;
+          older_ready = All-tail IsReady newest older ready;
+        };
+      }
     where
-      empty : (a.newest.base == 16) ≡ true → length (view_of m a).state.chunks ≡ 0
-      empty none = rw none refl
-
       far : length memory.state.chunks ≡ suc (length a.older.items) → n ≡ suc (length a.older.items) → ⊥
       far count same = other (same ∙ sym count)
 
@@ -85,44 +93,27 @@ module _ (m : ℕ) (a : Inside m) (memory : Memory) where
   pub ends_in : (n : ℕ) (c : StoredChunk) → Stands m a → view_of m a ≡ memory → 0 < n → n ≤ length a.older.items
       → n ≤ length memory.state.chunks → IsOldest a.older.items (n - 1) c → AreEnds n c
   ends_in n c stands view some fits within is =
-      let older = oldest (n - 1) a.older.items in
-      elim (kind m a stands) [
-        | inl none ↦ absurd (omega (arith, some, within, ap (λ (w : Memory). length w.state.chunks) view, empty none.0))
-        | inr chunk ↦
-            let count : length memory.state.chunks ≡ suc (length a.older.items) = sym (ap (λ (w : Memory). length w.state.chunks) view)
-            ∙ rw chunk (length-map (a.newest ∷ a.older.items) stored_chunk) in
-            let first : IsFirst n c older = first_kept n c older stands view some within (λ same. absurd (omega (arith, same, count, fits)))
-            (ap (λ (k : ℕ). oldest k a.older.items) (omega (arith, some)) ∙ is) in
-            let test : (c.base == 16) ≡ false = grind (arith, nat_tests, first.high) in
-            record {
-              start = ap (λ (w : Memory). start_of w.state.chunks) (sym first.view) ∙ rw test refl;
-              top = ap (λ (w : Memory). top_of w.state.chunks) (sym first.view) ∙ rw test refl;
-            }
-      ]
-    where
-      empty : (a.newest.base == 16) ≡ true → length (view_of m a).state.chunks ≡ 0
-      empty none = rw none refl
+      let count = (counted n stands view some within).1 in
+      let first : IsFirst n c (oldest (n - 1) a.older.items) = first_kept n c _ stands view some within
+      (λ same. absurd (omega (arith, same, count, fits))) (ap (λ (k : ℕ). oldest k a.older.items) (omega (arith, some)) ∙ is) in
+      let test : (c.base == 16) ≡ false = grind (arith, nat_tests, first.high) in
+      record {
+        start = ap (λ (w : Memory). start_of w.state.chunks) (sym first.view) ∙ rw test refl;
+        top = ap (λ (w : Memory). top_of w.state.chunks) (sym first.view) ∙ rw test refl;
+      }
 
   -- the same if it is the newest
   pub ends_newest : (n : ℕ) → Stands m a → view_of m a ≡ memory → 0 < n → length a.older.items < n → n ≤ length memory.state.chunks
       → AreEnds n a.newest
   ends_newest n stands view some far within =
-      elim (kind m a stands) [
-        | inl none ↦ absurd (omega (arith, some, within, ap (λ (w : Memory). length w.state.chunks) view, empty none.0))
-        | inr chunk ↦
-            let count : length memory.state.chunks ≡ suc (length a.older.items) = sym (ap (λ (w : Memory). length w.state.chunks) view)
-            ∙ rw chunk (length-map (a.newest ∷ a.older.items) stored_chunk) in
-            let all : length memory.state.chunks - n ≡ 0 = omega (arith, count, far) in
-            record {
-              start = ap (λ (k : ℕ). start_of (drop k memory.state.chunks)) all ∙ ap (λ (w : Memory). start_of w.state.chunks) (sym view)
-                  ∙ rw chunk refl;
-              top = ap (λ (k : ℕ). top_of (drop k memory.state.chunks)) all ∙ ap (λ (w : Memory). top_of w.state.chunks) (sym view)
-                  ∙ rw chunk refl;
-            }
-      ]
-    where
-      empty : (a.newest.base == 16) ≡ true → length (view_of m a).state.chunks ≡ 0
-      empty none = rw none refl
+      let here = counted n stands view some within in
+      let all : length memory.state.chunks - n ≡ 0 = omega (arith, here.1, far) in
+      record {
+        start = ap (λ (k : ℕ). start_of (drop k memory.state.chunks)) all ∙ ap (λ (w : Memory). start_of w.state.chunks) (sym view)
+            ∙ rw here.0 refl;
+        top = ap (λ (k : ℕ). top_of (drop k memory.state.chunks)) all ∙ ap (λ (w : Memory). top_of w.state.chunks) (sym view)
+            ∙ rw here.0 refl;
+      }
 
   -- there is a list of bytes for each chunk
   pub lists_paired : view_of m a ≡ memory → length memory.bytes ≡ length memory.state.chunks

@@ -190,8 +190,7 @@ impl<const MIN_ALIGN: usize> Arena<MIN_ALIGN> {
           bytes = self.old.bytes;
         } }
     {
-        self.newest.make_ready(addr);
-        self.newest.cursor = addr;
+        self.newest.set_cursor(addr);
         count_one(&mut self.allocations);
     }
 

@@ -126,8 +126,7 @@ impl<const MIN_ALIGN: usize> Arena<MIN_ALIGN> {
         } }
         ensures valid { IsValid self.new.state }
     {
-        self.newest.make_ready(addr);
-        self.newest.cursor = addr;
+        self.newest.set_cursor(addr);
         self.generation = self.generation.saturating_add(1);
     }
 

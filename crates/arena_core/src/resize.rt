@@ -1,5 +1,5 @@
 // How an arena grows and shrinks blocks.
-ghost use Rattle.std.specs.Prelude.{◌≡◌, ℕ, ◌+◌, ◌-◌, ◌^◌, ◌%◌, nat_lt, ◌≤◌, ◌<◌, if◌then◌else◌, IsOk, IsTrue, Some, min};
+ghost use Rattle.std.specs.Prelude.{◌≡◌, ◌+◌, ◌-◌, ◌^◌, ◌%◌, nat_lt, ◌≤◌, ◌<◌, if◌then◌else◌, IsOk, IsTrue, min};
 
 use crate::alloc::SlowAnswer;
 use crate::arena::Arena;
@@ -15,9 +15,7 @@ fn one_fewer(count: u64) -> u64
 }
 
 impl<const MIN_ALIGN: usize> Arena<MIN_ALIGN> {
-    ghost use Rattle.arena_rules.specs.Rounding.{up, is_layout};
     ghost use Rattle.arena_rules.specs.State.{IsValid, start_of, cursor_of, top_of, with_cursor, is_range_used};
-    ghost use Rattle.arena_rules.specs.Search.{place};
     ghost use Rattle.arena_rules.specs.Moves.Resizing.{Anew};
     ghost use Rattle.arena_rules.specs.Statistics.{one_reallocation};
     ghost use Rattle.arena_store.specs.Memory.{Memory, Writes, is_readable, image, bytes_from};
@@ -121,59 +119,21 @@ impl<const MIN_ALIGN: usize> Arena<MIN_ALIGN> {
             return Err(ArenaErr::AllocErr { refused: 0 });
         };
         match place(
-            self.newest.floor(),
-            self.newest.cursor,
-            below,
-            MIN_ALIGN as u64,
-        ) {
-            Some(addr) => {
-                self.newest.cursor = addr;
-                Ok((self.move_down(block, addr, layout), 0))
-            }
-            None => {
-                // A copy for the out-of-line call, so that the block itself stays in registers.
-                let old = block;
-                let slow = self.grow_below(chunks, old, below, layout);
-                self.slow_block(slow, layout)
-            }
-        }
-    }
-
-    // Grows a block at the cursor for which the ready part of the newest chunk has no room: in place, into bytes that
-    // are made ready for it, or by a new allocation.
-    #[cold]
-    #[inline(never)]
-    fn grow_below<C: ChunkSource>(
-        &mut self,
-        chunks: &mut C,
-        block: Block,
-        below: Layout,
-        layout: Layout,
-    ) -> SlowAnswer
-        requires readable { IsTrue (is_readable self.old.state block) }
-        requires size { block.size ≤ layout.size }
-        requires align { layout.align ≤ block.align }
-        requires last { block.addr ≡ cursor_of self.old.state.chunks }
-        requires below { below.size ≡ up layout.size self.old.state.min_align - block.size }
-        requires below_align { below.align ≡ block.align }
-        ensures { OnCounted (at_cursor self.new.state layout.size layout.align result)
-            (ResizesAfter (growing_of self.old block layout.size layout.align)
-            (view self.old (C.source chunks.old)) (view self.new (C.source chunks.new))
-            block layout.size layout.align) }
-    {
-        match place(
             self.newest.base,
             self.newest.cursor,
             below,
             MIN_ALIGN as u64,
         ) {
             Some(addr) => {
-                self.newest.make_ready(addr);
-                self.newest.cursor = addr;
-                let _ = self.move_down(block, addr, layout);
-                SlowAnswer::AtCursor { refused: 0 }
+                self.newest.set_cursor(addr);
+                Ok((self.move_down(block, addr, layout), 0))
             }
-            None => self.copy_to_new(chunks, block, layout, block.size),
+            None => {
+                // A copy for the out-of-line call, so that the block itself stays in registers.
+                let old = block;
+                let slow = self.copy_to_new(chunks, old, layout, block.size);
+                self.slow_block(slow, layout)
+            }
         }
     }
 

@@ -69,10 +69,10 @@ oldest n chunks = drop (length chunks - n) chunks
 abbrev pub IsOldest : List StoredChunk → ℕ → StoredChunk → Type 0
 IsOldest chunks i c = oldest (i + 1) chunks ≡ c ∷ oldest i chunks
 
--- the chunk is ready from an address on, and otherwise as it was
-pub record IsMadeReady (old new : StoredChunk) (addr : ℕ) : Type 0 where
+-- the cursor is at an address, from which on the chunk is ready
+pub record IsMovedTo (old new : StoredChunk) (addr : ℕ) : Type 0 where
   pub low : ℕ
-  pub chunk : new ≡ record old { bytes = bytes old.bytes.items low }
+  pub chunk : new ≡ record { base = old.base; cursor = addr; bytes = bytes old.bytes.items low }
   pub ready : old.base + low ≤ addr
 
 -- n bytes of the chunk from this address on

@@ -1,11 +1,11 @@
 // A chunk with its bytes.
-ghost use Rattle.std.specs.Prelude.{◌≡◌, ◌<◌, ◌^◌, [], ◌∷◌, ◌++◌, ◌==◌, if◌then◌else◌, vec_len, vec_capacity, length, take, drop, ◌≤◌, ◌+◌, ◌-◌, Some, None, nat_le, min};
+ghost use Rattle.std.specs.Prelude.{◌≡◌, ℕ, ◌<◌, ◌^◌, [], ◌∷◌, ◌++◌, ◌==◌, if◌then◌else◌, vec_len, vec_capacity, length, take, drop, ◌≤◌, ◌+◌, ◌-◌, Some, None, nat_le, min};
 ghost use Rattle.std.specs.Borrow.{sem};
 ghost use Rattle.std.specs.List.{All, list_any, count_by};
 ghost use Rattle.arena_rules.specs.State.{used_length, is_used_by};
 ghost use Rattle.arena_region.specs.Bytes.{bytes, written_from};
 ghost use Rattle.arena_store.specs.Lends.{LendsPart};
-ghost use Rattle.arena_store.specs.Stored.{stored_chunk, floor_in, part_of, part_in, with_part_in, HasPartIn, IsOrdered, IsMadeReady, IsTopmost};
+ghost use Rattle.arena_store.specs.Stored.{stored_chunk, floor_in, part_of, part_in, with_part_in, HasPartIn, IsOrdered, IsMovedTo, IsTopmost};
 
 use crate::block::Block;
 use crate::edit::shift_in;
@@ -82,19 +82,17 @@ impl StoredChunk {
         self.base + self.bytes.low() as u64
     }
 
-    /// Makes the bytes from an address on ready, and some below it.
-    pub fn make_ready(&mut self, addr: u64)
+    /// Moves the cursor, and makes the bytes from there on ready.
+    #[inline(always)]
+    pub fn set_cursor(&mut self, addr: u64)
         requires { self.old.base ≤ addr }
-        ensures { IsMadeReady self.old self.new addr }
+        ensures { IsMovedTo self.old self.new addr }
     {
         let from = (addr - self.base) as usize;
-        let low = self.bytes.low();
-        if from < low {
-            let step = ((self.bytes.len() - low) / SHARE)
-                .max(LEAST_STEP)
-                .min(LARGEST_STEP);
-            self.bytes.make_ready(from.min(low.saturating_sub(step)));
+        if from < self.bytes.low() {
+            make_ready(&mut self.bytes, from);
         }
+        self.cursor = addr;
     }
 
     /// Makes the bytes from an address on ready, and writes these there.
@@ -140,6 +138,20 @@ impl StoredChunk {
         let end = self.base + self.size();
         self.cursor <= block.addr && block.addr <= end && block.size <= end - block.addr
     }
+}
+
+// Makes the bytes from an index on ready, and some below it. It is kept out of line, so that a move of the cursor in the
+// ready part is small enough to be inlined.
+#[cold]
+#[inline(never)]
+fn make_ready(region: &mut Region, from: usize)
+    ensures { (low : ℕ) × (low ≤ from) × (region.new ≡ bytes region.old.items low) }
+{
+    let low = region.low();
+    let step = ((region.len() - low) / SHARE)
+        .max(LEAST_STEP)
+        .min(LARGEST_STEP);
+    region.make_ready(from.min(low.saturating_sub(step)));
 }
 
 /// Makes a granted chunk the newest, with nothing used in it. The previous newest chunk, if there was one, is added to

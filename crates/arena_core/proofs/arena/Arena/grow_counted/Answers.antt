@@ -5,7 +5,7 @@ use Rattle.arena_rules.specs.Search.{place}
 use Rattle.arena_rules.proofs.RoundingLemmas.{min_align_power, min_align_positive, min_align_le, layout_small, up_ge}
 use Rattle.arena_store.specs.Memory.{Memory}
 use Rattle.arena_rules.proofs.CursorLemmas.{start_set}
-use Rattle.arena_core.proofs.StoredLemmas.{cursor_stored, place_ready, cursor_moved, cursor_view}
+use Rattle.arena_core.proofs.StoredLemmas.{cursor_stored, place_stored, cursor_moved, cursor_view}
 use Rattle.arena_core.proofs.AllocationLemmas.{place_cursor}
 use Rattle.arena_rules.proofs.ResizeSteps.{IsHere, grows_down, grows_not}
 use Rattle.arena_core.proofs.ResizedLemmas.{resized_not}
@@ -44,23 +44,24 @@ returns-in_default g c =
     rw way (resized_not c.args.self.now _ c.args.block c.args.layout.size c.args.layout.align
     (subst (λ (w : Memory). IsValid w.state) c.self.view_is c.self.invariant.valid))
 
--- ---- Down into bytes that are ready
+-- ---- Down with the cursor
 
 pub invariant_of-self : goal.invariant_of-self
 invariant_of-self g c =
     let valid = subst (λ (w : Memory). IsValid w.state) c.self-2.view_is c.self-2.invariant.valid in
-    let found = place_ready g.row.MIN_ALIGN c.self-2.inside c.args.self.now c.in-Some.below.size c.in-Some.below.align c.in-Some-place.addr
-    c.self-2.invariant c.self-2.view_is (rw c.floor.ensures at c.in-Some-place.ensures) in
-    cursor_moved g.row.MIN_ALIGN c.self-2.inside c.args.self.now c.in-Some-place.addr c.self-2.inside.newest.bytes.low
+    let found = place_stored g.row.MIN_ALIGN c.self-2.inside c.args.self.now c.in-Some.below.size c.in-Some.below.align
+    (Some c.in-Some-place.addr) c.self-2.invariant c.self-2.view_is c.in-Some-place.ensures in
+    let moved = c.set_cursor.ensures in
+    rw moved.chunk (cursor_moved g.row.MIN_ALIGN c.self-2.inside c.args.self.now c.in-Some-place.addr moved.low
     c.self-2.inside.generation c.self-2.inside.allocations c.self-2.inside.reallocations c.self-2.invariant c.self-2.view_is
-    (place_cursor c.args.self.now.state c.in-Some.below.size c.in-Some.below.align c.in-Some-place.addr valid c.in-Some.below.valid found.0)
-    c.self-2.invariant.valid.generation found.1
+    (place_cursor c.args.self.now.state c.in-Some.below.size c.in-Some.below.align c.in-Some-place.addr valid c.in-Some.below.valid found)
+    c.self-2.invariant.valid.generation moved.ready)
 
 pub move_down-requires : goal.move_down-requires
 move_down-requires g c =
     let valid = subst (λ (w : Memory). IsValid w.state) c.self-2.view_is c.self-2.invariant.valid in
-    let found = place_ready g.row.MIN_ALIGN c.self-2.inside c.args.self.now c.in-Some.below.size c.in-Some.below.align c.in-Some-place.addr
-    c.self-2.invariant c.self-2.view_is (rw c.floor.ensures at c.in-Some-place.ensures) in
+    let found = place_stored g.row.MIN_ALIGN c.self-2.inside c.args.self.now c.in-Some.below.size c.in-Some.below.align
+    (Some c.in-Some-place.addr) c.self-2.invariant c.self-2.view_is c.in-Some-place.ensures in
     let at = c.if-block-self.false ∙ cursor_stored g.row.MIN_ALIGN c.self.inside c.args.self.now c.self.invariant c.self.view_is in
     let more : ℕ = up c.args.layout.size c.args.self.now.state.min_align - c.args.block.size in
     let size : c.in-Some.below.size ≡ more = c.in-Some.ensures.value.0
@@ -68,12 +69,15 @@ move_down-requires g c =
     ∙ ap (λ (w : Memory). up c.args.layout.size w.state.min_align) c.self.view_is) in
     let fine : IsTrue (is_layout more c.args.block.align) = rw (← size, ← c.in-Some.ensures.value.1) c.in-Some.below.valid in
     let spot : place c.args.self.now.state more c.args.block.align ≡ Some c.in-Some-place.addr =
-    rw (← size, ← c.in-Some.ensures.value.1) found.0 in
+    rw (← size, ← c.in-Some.ensures.value.1) found in
     let down = is_grown c.args.self.now c.args.block c.args.layout.size c.in-Some-place.addr valid c.requires.readable at fine spot in
     let used = grown_used c.args.self.now c.args.block c.args.layout.size c.in-Some-place.addr in
     let start = start_set c.in-Some-place.addr c.args.self.now.state.chunks in
-    rw (ap (λ (w : Memory). w.state.chunks) (cursor_view g.row.MIN_ALIGN c.self-2.inside c.args.self.now c.in-Some-place.addr
-    c.self-2.inside.newest.bytes.low c.self-2.view_is)) (
+    rw (
+      c.set_cursor.ensures.chunk,
+      ap (λ (w : Memory). w.state.chunks)
+          (cursor_view g.row.MIN_ALIGN c.self-2.inside c.args.self.now c.in-Some-place.addr c.set_cursor.ensures.low c.self-2.view_is),
+    ) (
       omega arith,
       (
         λ some. used _ _ down down.below (omega arith) some,
@@ -87,8 +91,8 @@ move_down-requires g c =
 pub returns-in-Some-place : goal.returns-in-Some-place
 returns-in-Some-place g c =
     let valid = subst (λ (w : Memory). IsValid w.state) c.self-2.view_is c.self-2.invariant.valid in
-    let found = place_ready g.row.MIN_ALIGN c.self-2.inside c.args.self.now c.in-Some.below.size c.in-Some.below.align c.in-Some-place.addr
-    c.self-2.invariant c.self-2.view_is (rw c.floor.ensures at c.in-Some-place.ensures) in
+    let found = place_stored g.row.MIN_ALIGN c.self-2.inside c.args.self.now c.in-Some.below.size c.in-Some.below.align
+    (Some c.in-Some-place.addr) c.self-2.invariant c.self-2.view_is c.in-Some-place.ensures in
     let at = c.if-block-self.false ∙ cursor_stored g.row.MIN_ALIGN c.self.inside c.args.self.now c.self.invariant c.self.view_is in
     let more : ℕ = up c.args.layout.size c.args.self.now.state.min_align - c.args.block.size in
     let size : c.in-Some.below.size ≡ more = c.in-Some.ensures.value.0
@@ -96,13 +100,12 @@ returns-in-Some-place g c =
     ∙ ap (λ (w : Memory). up c.args.layout.size w.state.min_align) c.self.view_is) in
     let fine : IsTrue (is_layout more c.args.block.align) = rw (← size, ← c.in-Some.ensures.value.1) c.in-Some.below.valid in
     let spot : place c.args.self.now.state more c.args.block.align ≡ Some c.in-Some-place.addr =
-    rw (← size, ← c.in-Some.ensures.value.1) found.0 in
+    rw (← size, ← c.in-Some.ensures.value.1) found in
     let down = is_grown c.args.self.now c.args.block c.args.layout.size c.in-Some-place.addr valid c.requires.readable at fine spot in
     let way = grows_down c.args.self.now.state c.args.block.addr c.args.block.size c.args.block.align c.args.layout.size c.args.layout.align
     c.in-Some-place.addr (record { low = c.if-block-layout.false; at = at }) fine spot in
     grown_answer c.args.self.now _ c.move_down.new.self _ c.args.block c.move_down.result c.args.layout.size c.args.layout.align
     c.in-Some-place.addr down c.requires.size c.args.layout.valid way
-    (cursor_view g.row.MIN_ALIGN c.self-2.inside c.args.self.now c.in-Some-place.addr c.self-2.inside.newest.bytes.low c.self-2.view_is)
+    (rw c.set_cursor.ensures.chunk (cursor_view g.row.MIN_ALIGN c.self-2.inside c.args.self.now c.in-Some-place.addr
+    c.set_cursor.ensures.low c.self-2.view_is))
     c.move_down.ensures.state c.move_down.ensures.statistics c.move_down.ensures.bytes c.move_down.ensures.block
-
--- ---- Further down, or by a new allocation

@@ -1,4 +1,4 @@
-use Rattle.std.proofs.Common.{ap, sym, arith, length}
+use Rattle.std.proofs.Common.{ap, sym, length}
 use Rattle.arena_store.specs.Memory.{image}
 use Rattle.arena_store.proofs.BytesLemmas.{no_bytes, written_none}
 use Rattle.arena_core.proofs.PartLemmas.{newest_part, newest_bytes, newest_lent, is_move, moved, IsMoved}

@@ -8,8 +8,8 @@ use Rattle.arena_core.proofs.arena.Arena.place_at.Goals as goal
 pub invariant_of-self : goal.invariant_of-self
 invariant_of-self g c =
     let valid = subst (λ (w : Memory). IsValid w.state) c.self.view_is c.self.invariant.valid in
-    let made = c.make_ready.ensures in
-    rw made.chunk (cursor_moved g.row.MIN_ALIGN c.self.inside c.args.self.now c.args.addr made.low c.self.inside.generation
+    let moved = c.set_cursor.ensures in
+    rw moved.chunk (cursor_moved g.row.MIN_ALIGN c.self.inside c.args.self.now c.args.addr moved.low c.self.inside.generation
     c.count_one.new.count c.self.inside.reallocations c.self.invariant c.self.view_is
     (place_cursor c.args.self.now.state c.args.layout.size c.args.layout.align c.args.addr valid c.args.layout.valid c.requires)
-    c.self.invariant.valid.generation made.ready)
+    c.self.invariant.valid.generation moved.ready)
