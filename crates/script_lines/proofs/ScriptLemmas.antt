@@ -14,77 +14,34 @@ use Rattle.line_parts.specs.Lines.{is_line_end, lines_behind, TakesLine, Refuses
 use Rattle.line_parts.proofs.LineLemmas.{has_feed, plain, plain_number, plain_hex, ended, first_line, word_ends, Progress}
 use Rattle.script_rules.specs.Grammar.{Part, Bits, Hex, part_text, written, command_line, Fits, script_lines, is_some_line, AreScripts, IsRefused, IsFirstRefused}
 use Rattle.script_rules.specs.declared.commands.Command.{Command}
-use Rattle.script_rules.specs.declared.commands.Command.TheVariants.{MakeList, MakeText, MakeBits, MakeMap, MakeValue, Push, Insert, Pop, Remove, At, Put, Truncate, Byte, Front, Append, SetBit, UnsetBit, HasBit, Union, Ones, Bind, Find, Unbind, Load, Store, Len, Show, CopyTo, DropName}
+use Rattle.script_rules.specs.declared.commands.Command.TheVariants.{MakeList}
 use Rattle.script_lines.specs.Adding.{AddsLast}
 
--- ---- A command's line has no line feed and isn't empty
+-- ---- A command's line has no line feed, isn't empty and doesn't begin with `script`
 
 plain_parts : (parts : List Part) → has_feed (flat_map part_text parts) ≡ false
 plain_parts [] = refl
 plain_parts (Bits width n ∷ parts) = plain (number n) (flat_map part_text parts) (plain_number n) (plain_parts parts)
 plain_parts (Hex bytes ∷ parts) = plain (hex bytes) (flat_map part_text parts) (plain_hex bytes) (plain_parts parts)
 
+-- The first word of a command has no line feed, and its second letter isn't that of `script`.
+first_word : (command : Command) → (has_feed (written command).0 ≡ false) × ((get_or (written command).0 1 99 == 99) ≡ false)
+first_word (MakeList a) = (refl, refl)
+first_word command = (refl, refl)
+
+-- a line that begins with such a word is neither empty nor that of `script`
+other_word : (w xs ys : List ℕ) → (get_or w 1 99 == 99) ≡ false → get_or ((w ++ xs) ++ ys) 1 99 ≢ 99
+other_word [] xs ys h e = cc
+other_word (a ∷ []) xs ys h e = cc
+other_word (a ∷ b ∷ w) xs ys h e = grind (arith, nat_tests)
+
 plain_command : (command : Command) → has_feed (command_line command) ≡ false
-plain_command (MakeList a) = plain_parts (written (MakeList a)).1
-plain_command (MakeText a) = plain_parts (written (MakeText a)).1
-plain_command (MakeBits a b) = plain_parts (written (MakeBits a b)).1
-plain_command (MakeMap a) = plain_parts (written (MakeMap a)).1
-plain_command (MakeValue a b) = plain_parts (written (MakeValue a b)).1
-plain_command (Push a b) = plain_parts (written (Push a b)).1
-plain_command (Insert a b c) = plain_parts (written (Insert a b c)).1
-plain_command (Pop a) = plain_parts (written (Pop a)).1
-plain_command (Remove a b) = plain_parts (written (Remove a b)).1
-plain_command (At a b) = plain_parts (written (At a b)).1
-plain_command (Put a b c) = plain_parts (written (Put a b c)).1
-plain_command (Truncate a b) = plain_parts (written (Truncate a b)).1
-plain_command (Byte a b) = plain_parts (written (Byte a b)).1
-plain_command (Front a b) = plain_parts (written (Front a b)).1
-plain_command (Append a b) = plain_parts (written (Append a b)).1
-plain_command (SetBit a b) = plain_parts (written (SetBit a b)).1
-plain_command (UnsetBit a b) = plain_parts (written (UnsetBit a b)).1
-plain_command (HasBit a b) = plain_parts (written (HasBit a b)).1
-plain_command (Union a b) = plain_parts (written (Union a b)).1
-plain_command (Ones a) = plain_parts (written (Ones a)).1
-plain_command (Bind a b c) = plain_parts (written (Bind a b c)).1
-plain_command (Find a b) = plain_parts (written (Find a b)).1
-plain_command (Unbind a b) = plain_parts (written (Unbind a b)).1
-plain_command (Load a) = plain_parts (written (Load a)).1
-plain_command (Store a b) = plain_parts (written (Store a b)).1
-plain_command (Len a) = plain_parts (written (Len a)).1
-plain_command (Show a) = plain_parts (written (Show a)).1
-plain_command (CopyTo a b) = plain_parts (written (CopyTo a b)).1
-plain_command (DropName a) = plain_parts (written (DropName a)).1
+plain_command command =
+    plain (written command).0 (flat_map part_text (written command).1) (first_word command).0 (plain_parts (written command).1)
 
 some_line : (command : Command) → command_line command ≢ []
-some_line (MakeList a) e = cc
-some_line (MakeText a) e = cc
-some_line (MakeBits a b) e = cc
-some_line (MakeMap a) e = cc
-some_line (MakeValue a b) e = cc
-some_line (Push a b) e = cc
-some_line (Insert a b c) e = cc
-some_line (Pop a) e = cc
-some_line (Remove a b) e = cc
-some_line (At a b) e = cc
-some_line (Put a b c) e = cc
-some_line (Truncate a b) e = cc
-some_line (Byte a b) e = cc
-some_line (Front a b) e = cc
-some_line (Append a b) e = cc
-some_line (SetBit a b) e = cc
-some_line (UnsetBit a b) e = cc
-some_line (HasBit a b) e = cc
-some_line (Union a b) e = cc
-some_line (Ones a) e = cc
-some_line (Bind a b c) e = cc
-some_line (Find a b) e = cc
-some_line (Unbind a b) e = cc
-some_line (Load a) e = cc
-some_line (Store a b) e = cc
-some_line (Len a) e = cc
-some_line (Show a) e = cc
-some_line (CopyTo a b) e = cc
-some_line (DropName a) e = cc
+some_line command e = other_word (written command).0 (flat_map part_text (written command).1) [] (first_word command).1
+    (ap (λ line. get_or (line ++ []) 1 99) e)
 
 -- ---- Lists of lines
 
@@ -205,37 +162,9 @@ refuses scripts bytes some begins none =
       };
     }
 
--- the second letter of each command's line isn't that of `script`
 no_script : (command : Command) (rest behind : List ℕ) → codes "script" ++ behind ≡ command_line command ++ rest → ⊥
-no_script (MakeList a) rest behind e = let second : ◌≡◌ {A = ℕ} 99 105 = ap (λ xs. get_or xs 1 0) e in omega arith
-no_script (MakeText a) rest behind e = let second : ◌≡◌ {A = ℕ} 99 101 = ap (λ xs. get_or xs 1 0) e in omega arith
-no_script (MakeBits a b) rest behind e = let second : ◌≡◌ {A = ℕ} 99 105 = ap (λ xs. get_or xs 1 0) e in omega arith
-no_script (MakeMap a) rest behind e = let second : ◌≡◌ {A = ℕ} 99 97 = ap (λ xs. get_or xs 1 0) e in omega arith
-no_script (MakeValue a b) rest behind e = let second : ◌≡◌ {A = ℕ} 99 97 = ap (λ xs. get_or xs 1 0) e in omega arith
-no_script (Push a b) rest behind e = let second : ◌≡◌ {A = ℕ} 99 117 = ap (λ xs. get_or xs 1 0) e in omega arith
-no_script (Insert a b c) rest behind e = let second : ◌≡◌ {A = ℕ} 99 110 = ap (λ xs. get_or xs 1 0) e in omega arith
-no_script (Pop a) rest behind e = let second : ◌≡◌ {A = ℕ} 99 111 = ap (λ xs. get_or xs 1 0) e in omega arith
-no_script (Remove a b) rest behind e = let second : ◌≡◌ {A = ℕ} 99 101 = ap (λ xs. get_or xs 1 0) e in omega arith
-no_script (At a b) rest behind e = let second : ◌≡◌ {A = ℕ} 99 116 = ap (λ xs. get_or xs 1 0) e in omega arith
-no_script (Put a b c) rest behind e = let second : ◌≡◌ {A = ℕ} 99 117 = ap (λ xs. get_or xs 1 0) e in omega arith
-no_script (Truncate a b) rest behind e = let second : ◌≡◌ {A = ℕ} 99 114 = ap (λ xs. get_or xs 1 0) e in omega arith
-no_script (Byte a b) rest behind e = let second : ◌≡◌ {A = ℕ} 99 121 = ap (λ xs. get_or xs 1 0) e in omega arith
-no_script (Front a b) rest behind e = let second : ◌≡◌ {A = ℕ} 99 114 = ap (λ xs. get_or xs 1 0) e in omega arith
-no_script (Append a b) rest behind e = let second : ◌≡◌ {A = ℕ} 99 112 = ap (λ xs. get_or xs 1 0) e in omega arith
-no_script (SetBit a b) rest behind e = let second : ◌≡◌ {A = ℕ} 99 101 = ap (λ xs. get_or xs 1 0) e in omega arith
-no_script (UnsetBit a b) rest behind e = let second : ◌≡◌ {A = ℕ} 99 110 = ap (λ xs. get_or xs 1 0) e in omega arith
-no_script (HasBit a b) rest behind e = let second : ◌≡◌ {A = ℕ} 99 97 = ap (λ xs. get_or xs 1 0) e in omega arith
-no_script (Union a b) rest behind e = let second : ◌≡◌ {A = ℕ} 99 110 = ap (λ xs. get_or xs 1 0) e in omega arith
-no_script (Ones a) rest behind e = let second : ◌≡◌ {A = ℕ} 99 110 = ap (λ xs. get_or xs 1 0) e in omega arith
-no_script (Bind a b c) rest behind e = let second : ◌≡◌ {A = ℕ} 99 105 = ap (λ xs. get_or xs 1 0) e in omega arith
-no_script (Find a b) rest behind e = let second : ◌≡◌ {A = ℕ} 99 105 = ap (λ xs. get_or xs 1 0) e in omega arith
-no_script (Unbind a b) rest behind e = let second : ◌≡◌ {A = ℕ} 99 110 = ap (λ xs. get_or xs 1 0) e in omega arith
-no_script (Load a) rest behind e = let second : ◌≡◌ {A = ℕ} 99 111 = ap (λ xs. get_or xs 1 0) e in omega arith
-no_script (Store a b) rest behind e = let second : ◌≡◌ {A = ℕ} 99 116 = ap (λ xs. get_or xs 1 0) e in omega arith
-no_script (Len a) rest behind e = let second : ◌≡◌ {A = ℕ} 99 101 = ap (λ xs. get_or xs 1 0) e in omega arith
-no_script (Show a) rest behind e = let second : ◌≡◌ {A = ℕ} 99 104 = ap (λ xs. get_or xs 1 0) e in omega arith
-no_script (CopyTo a b) rest behind e = let second : ◌≡◌ {A = ℕ} 99 111 = ap (λ xs. get_or xs 1 0) e in omega arith
-no_script (DropName a) rest behind e = let second : ◌≡◌ {A = ℕ} 99 114 = ap (λ xs. get_or xs 1 0) e in omega arith
+no_script command rest behind e = other_word (written command).0 (flat_map part_text (written command).1) rest (first_word command).1
+    (ap (λ line. get_or line 1 99) (sym e))
 
 -- the word `script`, and then more on the line
 pub refuses_script : (scripts : List (List Command)) (bytes behind : List ℕ) → false ≡ is_line_end bytes
