@@ -48,15 +48,10 @@ counted tally used allocated = record {
   allocated = allocated;
 }
 
--- that is the summary, and so is its text
-tallied : (tally : Tally) (replies : List Reply) (state : State) (used allocated : ℕ) → IsTally tally replies → used ≡ used_bytes state
-    → allocated ≡ allocated_bytes state
-    → counted tally used allocated ≡ summary_of replies state
-tallied tally replies state used allocated is used_is allocated_is =
-    rw (is.calls, is.placed, is.failed, is.other, is.bytes, is.byte_sum, used_is, allocated_is) refl
-
+-- that is the summary
 pub summed : (tally : Tally) (replies : List Reply) (state : State) (used allocated : ℕ) (old new : List ℕ) → IsTally tally replies
     → used ≡ used_bytes state → allocated ≡ allocated_bytes state → new ≡ old ++ summary_text (counted tally used allocated)
     → new ≡ old ++ summary_text (summary_of replies state)
 summed tally replies state used allocated old new is used_is allocated_is put =
-    put ∙ ap (λ (eight : Eight). old ++ summary_text eight) (tallied tally replies state used allocated is used_is allocated_is)
+    put ∙ ap (λ (eight : Eight). old ++ summary_text eight)
+    (rw (is.calls, is.placed, is.failed, is.other, is.bytes, is.byte_sum, used_is, allocated_is) refl)

@@ -1,5 +1,4 @@
 pub mod StreamLemmas
-pub mod CallLemmas
 pub mod LineLemmas
 pub mod ReplyLemmas
 pub mod WordLemmas

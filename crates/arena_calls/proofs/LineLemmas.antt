@@ -1,12 +1,12 @@
 -- Lines of calls, one after another.
-use Rattle.std.proofs.Common.{◌≡◌, ◌≢◌, ℕ, ◌+◌, true, false, List, [], ◌∷◌, ◌++◌, length, Some, None, refl, sym, ap, ◌∙◌, subst, arith, length-append}
-use Rattle.std.proofs.lemmas.Option.{some_pair_parts}
-use Rattle.call_rules.specs.Grammar.{lines_of, Fits, AreCalls, IsCall, IsRefused, IsFirstRefused, fields, hex, call_line}
+use Rattle.std.proofs.Common.{◌≡◌, ◌≢◌, ℕ, true, false, List, [], ◌∷◌, ◌++◌, length, Option, Some, refl, sym, ap, ◌∙◌, subst, arith, length-append}
+use Rattle.std.specs.Prelude.{IfSome}
+use Rattle.call_rules.specs.Grammar.{lines_of, Fits, AreCalls, IsCall, IsFirstRefused, fields, hex, call_line}
 use Rattle.call_rules.specs.declared.calls.Call.{Call}
-use Rattle.call_rules.specs.declared.calls.Call.TheVariants.{Alloc, Grow, Shrink, Dealloc, Write, Read, Mark, Back, Reset, Used, Allocated}
+use Rattle.call_rules.specs.declared.calls.Call.TheVariants.{Alloc, Grow, Shrink, Dealloc, Write, Read, Mark, Back}
 use Rattle.line_parts.specs.Reads.{ReadsFront}
 use Rattle.line_parts.specs.Lines.{is_line_end, lines_behind, TakesLine, RefusesLine}
-use Rattle.line_parts.proofs.LineLemmas.{has_feed, plain, plain_fields, plain_hex, ended, first_line, word_ends, Progress}
+use Rattle.line_parts.proofs.LineLemmas.{has_feed, plain, plain_fields, plain_hex, ended, first_line, no_line}
 
 -- ---- A call has no line feed
 
@@ -19,9 +19,7 @@ plain_call (Write name at bytes) = plain (fields (name ∷ at ∷ [])) (32 ∷ h
 plain_call (Read name) = plain_fields (name ∷ [])
 plain_call (Mark name) = plain_fields (name ∷ [])
 plain_call (Back name) = plain_fields (name ∷ [])
-plain_call Reset = refl
-plain_call Used = refl
-plain_call Allocated = refl
+plain_call call = refl
 
 -- ---- The first line
 
@@ -52,16 +50,7 @@ add_call line call some is ((b ∷ l) ∷ lines) (c ∷ old) are = (are.0, add_c
 -- a call's line isn't empty
 some_line : (call : Call) → call_line call ≢ []
 some_line (Alloc name size align fill) e = cc
-some_line (Grow name size align fill) e = cc
-some_line (Shrink name size align) e = cc
-some_line (Dealloc name) e = cc
-some_line (Write name at bytes) e = cc
-some_line (Read name) e = cc
-some_line (Mark name) e = cc
-some_line (Back name) e = cc
-some_line Reset e = cc
-some_line Used e = cc
-some_line Allocated e = cc
+some_line call e = cc
 
 pub takes_call : (bytes behind : List ℕ) (call : Call) (old new : List Call) → ReadsFront Fits call_line bytes (Some (call, behind))
     → true ≡ is_line_end behind → new ≡ old ++ call ∷ [] → TakesLine AreCalls bytes behind old new
@@ -75,48 +64,23 @@ takes_call bytes behind call old new read e pushed =
           (add_call line call (some_line call) (record { fits = read.found.0; text = refl }) lines old are);
     }
 
-refuses : (bytes : List ℕ) → false ≡ is_line_end bytes
-    → ((call : Call) (rest : List ℕ) → Fits call → is_line_end rest ≡ true → bytes ≡ call_line call ++ rest → ⊥)
-    → RefusesLine IsRefused bytes
-refuses bytes some none =
+-- nothing was read of the first line, or less than the line
+pub refuses : (bytes : List ℕ) (calls : List Call) (read : Option (Call × List ℕ)) → false ≡ is_line_end bytes
+    → ReadsFront Fits call_line bytes read → IfSome read (λ x. false ≡ is_line_end x.1) → RefusesLine AreCalls IsFirstRefused bytes calls
+refuses bytes calls read some h more = λ before are.
     let s = first_line bytes in
     record {
+      before = before;
+      calls = calls;
       line = s.line;
       after = lines_behind s.rest;
-      first = ap lines_of s.all ∙ ended s.line s.rest s.plain_line s.ends;
-      refused = record {
+      all = ap (λ ls. before ++ ls) (ap lines_of s.all ∙ ended s.line s.rest s.plain_line s.ends);
+      number = refl;
+      good = are;
+      bad = record {
         some = λ e. let all : bytes ≡ s.rest = s.all ∙ ap (λ xs. xs ++ s.rest) e in let ends : is_line_end bytes ≡ true = ap is_line_end all
             ∙ s.ends in cc;
-        none = λ call is. none call s.rest is.fits s.ends (s.all ∙ ap (λ xs. xs ++ s.rest) is.text);
+        none = λ call is. no_line Fits call_line bytes read h more call s.rest is.fits s.ends
+            (s.all ∙ ap (λ xs. xs ++ s.rest) is.text);
       };
-    }
-
-pub refuses_start : (bytes : List ℕ) → false ≡ is_line_end bytes → ReadsFront Fits call_line bytes None → RefusesLine IsRefused bytes
-refuses_start bytes some read = refuses bytes some (λ call rest fits ends e. let none = read.only call rest fits (word_ends rest ends) e in
-    cc)
-
-pub refuses_more : (bytes behind : List ℕ) (call : Call) → false ≡ is_line_end bytes → ReadsFront Fits call_line bytes (Some (call, behind))
-    → false ≡ is_line_end behind → RefusesLine IsRefused bytes
-refuses_more bytes behind call some read more =
-    refuses bytes some (λ other rest fits ends e. let same =
-    (some_pair_parts call other behind rest (read.only other rest fits (word_ends rest ends) e)).1 in cc)
-
--- ---- All lines
-
-pub no_calls : (calls : List Call) → calls ≡ [] → AreCalls [] calls
-no_calls calls e = subst (AreCalls []) (sym e) tt
-
-pub first_refused : (bytes rest : List ℕ) (calls : List Call) (count : ℕ) → Progress AreCalls bytes rest calls count
-    → RefusesLine IsRefused rest
-    → IsFirstRefused (lines_of bytes) (count + 1)
-first_refused bytes rest calls count p r =
-    record {
-      before = p.before;
-      calls = calls;
-      line = r.line;
-      after = r.after;
-      all = p.all ∙ ap (λ xs. p.before ++ xs) r.first;
-      number = ap (λ n. n + 1) p.counted;
-      good = p.are;
-      bad = r.refused;
     }

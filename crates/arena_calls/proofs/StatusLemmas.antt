@@ -1,8 +1,7 @@
 -- Which status there is where nothing fails, and where something failed.
-use Rattle.std.proofs.Common.{◌≡◌, ◌≢◌, ℕ, ◌+◌, ◌<◌, ◌≤◌, List, [], ◌++◌, length, get_or, Option, Some, None, Ok, Err, refl, sym, ap, ◌∙◌, subst, arith, inl, inr, length-append}
+use Rattle.std.proofs.Common.{◌≡◌, ◌≢◌, ℕ, ◌+◌, ◌<◌, ◌≤◌, List, [], length, get_or, Option, Some, None, Ok, Err, refl, sym, ap, ◌∙◌, subst, arith, inl, inr, length-append}
 use Rattle.std.specs.Prelude.{Result, ◌⊎◌}
-use Rattle.call_rules.specs.Grammar.{number}
-use Rattle.call_rules.proofs.NumberLemmas.{read_front, read_number}
+use Rattle.line_parts.proofs.ReadingLemmas.{number_same}
 use Rattle.arena_calls.specs.Ends.{Outside, FaultsBy, ReadsWhole, Word, EndsAs, GenEnds, EndsBy, AsksGen, IsFaultless, status_of}
 use Rattle.arena_calls.specs.ReadAll.{limit, TakesFront, TakesWhole}
 use Rattle.arena_calls.specs.declared.status.Status.{Status}
@@ -67,21 +66,11 @@ module _ {Read : Type 0} (word : Word Read) (old new : Outside) where
 module _ (old new : Outside) where
   pub told_reads : (status : Status) → FaultsBy status old new → new.read_faults ≢ old.read_faults → status ≡ ReadFault
   told_reads ReadFault faults rose = refl
-  told_reads Done faults rose = absurd (rose faults.reads)
-  told_reads Usage faults rose = absurd (rose faults.reads)
-  told_reads (BadLine n) faults rose = absurd (rose faults.reads)
-  told_reads OutOfMemory faults rose = absurd (rose faults.reads)
-  told_reads WriteFault faults rose = absurd (rose faults.reads)
-  told_reads InputTooLong faults rose = absurd (rose faults.reads)
+  told_reads status faults rose = absurd (rose faults.reads)
 
   pub told_writes : (status : Status) → FaultsBy status old new → new.write_faults ≢ old.write_faults → status ≡ WriteFault
   told_writes WriteFault faults rose = refl
-  told_writes Done faults rose = absurd (rose faults.writes)
-  told_writes Usage faults rose = absurd (rose faults.writes)
-  told_writes (BadLine n) faults rose = absurd (rose faults.writes)
-  told_writes OutOfMemory faults rose = absurd (rose faults.writes)
-  told_writes ReadFault faults rose = absurd (rose faults.writes)
-  told_writes InputTooLong faults rose = absurd (rose faults.writes)
+  told_writes status faults rose = absurd (rose faults.writes)
 
   -- ---- A run of calls from a number
 
@@ -90,25 +79,11 @@ module _ (old new : Outside) where
   gen_status start count Done ends whole = inl refl
   gen_status start count OutOfMemory ends whole = inr refl
   gen_status start count WriteFault ends whole = absurd (whole.writes ends.0.writes)
-  gen_status start count Usage ends whole = absurd ends.2
-  gen_status start count (BadLine n) ends whole = absurd ends.2
-  gen_status start count ReadFault ends whole = absurd ends.2
-  gen_status start count InputTooLong ends whole = absurd ends.2
+  gen_status start count status ends whole = absurd ends.2
 
   pub gen_reads : (start count : ℕ) (status : Status) → GenEnds start count status old new → new.read_faults ≡ old.read_faults
-  gen_reads start count Done ends = ends.0.reads
-  gen_reads start count OutOfMemory ends = ends.0.reads
-  gen_reads start count WriteFault ends = ends.0.reads
-  gen_reads start count Usage ends = ends.0.reads
-  gen_reads start count (BadLine n) ends = ends.0.reads
   gen_reads start count ReadFault ends = absurd ends.2
-  gen_reads start count InputTooLong ends = ends.0.reads
-
-same_number : (m n : ℕ) → number m ≡ number n → m ≡ n
-same_number m n e =
-    let read : ◌≡◌ {A = ℕ × List ℕ} (m, []) (n, []) = sym (read_number m [] tt) ∙ ap (λ xs. read_front 0 (xs ++ [])) e ∙ read_number n [] tt
-    in
-    ap (λ (p : ℕ × List ℕ). p.0) read
+  gen_reads start count status ends = ends.0.reads
 
 -- words ask for at most one start and count, and then not for a run of lines
 pub generated_ends : (words : List (List ℕ)) (start count : ℕ) (status : Status) (old new : Outside) → AsksGen words start count
@@ -123,5 +98,5 @@ generated_ends words start count status old new asks ends = record {
     same : (from many : ℕ) → AsksGen words from many → GenEnds from many status old new
     same from many also =
         let all = sym asks.all ∙ also.all in
-        subst (λ n. GenEnds from n status old new) (same_number count many (ap (λ ws. get_or ws 2 []) all))
-        (subst (λ n. GenEnds n count status old new) (same_number start from (ap (λ ws. get_or ws 1 []) all)) ends)
+        subst (λ n. GenEnds from n status old new) (number_same count many (ap (λ ws. get_or ws 2 []) all))
+        (subst (λ n. GenEnds n count status old new) (number_same start from (ap (λ ws. get_or ws 1 []) all)) ends)

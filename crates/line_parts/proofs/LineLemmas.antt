@@ -1,13 +1,14 @@
 -- Lines one after another.
-use Rattle.std.proofs.Common.{◌≡◌, ℕ, ◌+◌, ◌/◌, ◌%◌, ◌≤◌, Bool, true, false, ◌||◌, IsTrue, List, [], ◌∷◌, ◌++◌, length, refl, sym, ap, ◌∙◌, subst, arith, append_assoc, length-append}
-use Rattle.std.specs.Prelude.{◌==◌}
+use Rattle.std.proofs.Common.{◌≡◌, ℕ, ◌+◌, ◌/◌, ◌%◌, ◌≤◌, Bool, true, false, ◌||◌, IsTrue, List, [], ◌∷◌, ◌++◌, length, Option, Some, None, refl, sym, ap, ◌∙◌, subst, arith, append_assoc, length-append}
+use Rattle.std.specs.Prelude.{◌==◌, IfSome}
 use Rattle.std.specs.List.{onto_first, flat_map}
 use Rattle.std.proofs.lemmas.List.Splits.{slice_split-cons_yes, slice_split-cons_no}
 use Rattle.std.proofs.lemmas.Bool.Decides.{nat_tests}
+use Rattle.std.proofs.lemmas.Option.{some_pair_parts}
 use Rattle.call_rules.specs.Grammar.{lines_of, number, fields, hex, hex_digit, hex_pair}
 use Rattle.call_rules.proofs.NumberLemmas.{number_by_steps}
-use Rattle.line_parts.specs.Reads.{is_word_end}
-use Rattle.line_parts.specs.Lines.{is_line_end, lines_behind, TakesLine}
+use Rattle.line_parts.specs.Reads.{is_word_end, ReadsFront}
+use Rattle.line_parts.specs.Lines.{is_line_end, lines_behind, TakesLine, RefusesLine}
 
 -- ---- Line feeds
 
@@ -84,6 +85,14 @@ pub word_ends : (rest : List ℕ) → is_line_end rest ≡ true → IsTrue (is_w
 word_ends [] e = refl
 word_ends (c ∷ cs) e = grind (arith, nat_tests)
 
+-- nothing was read of the first line, or less than the line
+pub no_line : {A : Type 0} (Is : A → Type 0) (text : A → List ℕ) (bytes : List ℕ) (read : Option (A × List ℕ))
+    → ReadsFront Is text bytes read → IfSome read (λ x. false ≡ is_line_end x.1)
+    → (a : A) (rest : List ℕ) → Is a → is_line_end rest ≡ true → bytes ≡ text a ++ rest → ⊥
+no_line Is text bytes None h more a rest is ends e = let none = h.only a rest is (word_ends rest ends) e in cc
+no_line Is text bytes (Some (b, behind)) h more a rest is ends e =
+    let same = (some_pair_parts b a behind rest (h.only a rest is (word_ends rest ends) e)).1 in cc
+
 -- ---- Progress
 
 -- some lines were read, and these bytes are left
@@ -120,3 +129,7 @@ pub all_read : {X : Type 0} (Are : List (List ℕ) → X → Type 0) (bytes rest
 all_read Are bytes rest behind old new count p t none =
     let lines : lines_of rest ≡ t.line ∷ [] = t.first ∙ ap (λ xs. t.line ∷ lines_behind xs) none in
     subst (λ xs. Are xs new) (sym (p.all ∙ ap (λ xs. p.before ++ xs) lines)) (t.adds p.before p.are)
+
+pub all_refused : {X : Type 0} (Are : List (List ℕ) → X → Type 0) (Is : List (List ℕ) → ℕ → Type 0) (bytes rest : List ℕ) (read : X)
+    (count : ℕ) → Progress Are bytes rest read count → RefusesLine Are Is rest read → Is (lines_of bytes) (count + 1)
+all_refused Are Is bytes rest read count p r = rw (p.all, p.counted) (r p.before p.are)

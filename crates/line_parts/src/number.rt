@@ -68,3 +68,11 @@ pub fn name_field(bytes: &[u8]) -> Option<(u32, &[u8])>
     let (name, rest) = field(bytes, u64::from(u32::MAX))?;
     Some((name as u32, rest))
 }
+
+/// Reads a space and a byte's number. Returns the byte and the rest.
+pub fn byte_field(bytes: &[u8]) -> Option<(u8, &[u8])>
+    ensures { Reads (λ b. b ≤ 2 ^ 8 - 1) (λ b. 32 ∷ number b) bytes.now result }
+{
+    let (byte, rest) = field(bytes, u64::from(u8::MAX))?;
+    Some((byte as u8, rest))
+}

@@ -1,18 +1,17 @@
 -- Lines of scripts, one after another.
-use Rattle.std.proofs.Common.{◌≡◌, ◌≢◌, ℕ, zero, suc, ◌+◌, ◌-◌, ◌<◌, get_or, true, false, List, [], ◌∷◌, ◌++◌, length, Some, None, refl, sym, ap, ◌∙◌, subst, arith, append_assoc, length-append, codes}
-use Rattle.std.specs.Prelude.{slice_set, ◌==◌}
+use Rattle.std.proofs.Common.{◌≡◌, ◌≢◌, ℕ, zero, suc, ◌+◌, ◌-◌, ◌<◌, get_or, true, false, List, [], ◌∷◌, ◌++◌, length, Option, Some, refl, sym, ap, ◌∙◌, subst, arith, append_assoc, length-append, codes}
+use Rattle.std.specs.Prelude.{slice_set, ◌==◌, IfSome}
 use Rattle.std.proofs.lemmas.Bool.Decides.{nat_tests}
 use Rattle.std.specs.List.{AllByRecursion, filter, flat_map}
 use Rattle.std.proofs.lemmas.List.{append-nil, map_push}
 use Rattle.std.proofs.lemmas.List.Concat.{flat_map-append}
 use Rattle.std.proofs.lemmas.List.Elements.{filter-append}
 use Rattle.arena_rules.proofs.ListLemmas.{all_append, all_parts}
-use Rattle.std.proofs.lemmas.Option.{some_pair_parts}
 use Rattle.call_rules.specs.Grammar.{lines_of, number, hex}
 use Rattle.line_parts.specs.Reads.{ReadsFront}
 use Rattle.line_parts.specs.Lines.{is_line_end, lines_behind, TakesLine, RefusesLine}
-use Rattle.line_parts.proofs.LineLemmas.{has_feed, plain, plain_number, plain_hex, ended, first_line, word_ends, Progress}
-use Rattle.script_rules.specs.Grammar.{Part, Bits, Hex, part_text, written, command_line, Fits, script_lines, is_some_line, AreScripts, IsRefused, IsFirstRefused}
+use Rattle.line_parts.proofs.LineLemmas.{has_feed, plain, plain_number, plain_hex, ended, first_line, no_line}
+use Rattle.script_rules.specs.Grammar.{Part, Bits, Hex, part_text, written, command_line, Fits, script_lines, is_some_line, AreScripts, IsFirstRefused}
 use Rattle.script_rules.specs.declared.commands.Command.{Command}
 use Rattle.script_rules.specs.declared.commands.Command.TheVariants.{MakeList}
 use Rattle.script_lines.specs.Adding.{AddsLast}
@@ -147,14 +146,18 @@ refuses : (scripts : List (List Command)) (bytes : List ℕ) → false ≡ is_li
     → ((rest : List ℕ) → is_line_end rest ≡ true → bytes ≡ codes "script" ++ rest → ⊥)
     → (scripts ≢ [] → (command : Command) (rest : List ℕ) → Fits command → is_line_end rest ≡ true
     → bytes ≡ command_line command ++ rest → ⊥)
-    → RefusesLine (IsRefused scripts) bytes
-refuses scripts bytes some begins none =
+    → RefusesLine AreScripts IsFirstRefused bytes scripts
+refuses scripts bytes some begins none = λ before are.
     let s = first_line bytes in
     record {
+      before = before;
+      scripts = scripts;
       line = s.line;
       after = lines_behind s.rest;
-      first = ap lines_of s.all ∙ ended s.line s.rest s.plain_line s.ends;
-      refused = record {
+      all = ap (λ ls. before ++ ls) (ap lines_of s.all ∙ ended s.line s.rest s.plain_line s.ends);
+      place = refl;
+      good = are;
+      bad = record {
         some = λ e. let all : bytes ≡ s.rest = s.all ∙ ap (λ xs. xs ++ s.rest) e in
             let ends : is_line_end bytes ≡ true = ap is_line_end all ∙ s.ends in cc;
         begins_none = λ e. begins s.rest s.ends (s.all ∙ ap (λ xs. xs ++ s.rest) e);
@@ -168,7 +171,7 @@ no_script command rest behind e = other_word (written command).0 (flat_map part_
 
 -- the word `script`, and then more on the line
 pub refuses_script : (scripts : List (List Command)) (bytes behind : List ℕ) → false ≡ is_line_end bytes
-    → bytes ≡ codes "script" ++ behind → false ≡ is_line_end behind → RefusesLine (IsRefused scripts) bytes
+    → bytes ≡ codes "script" ++ behind → false ≡ is_line_end behind → RefusesLine AreScripts IsFirstRefused bytes scripts
 refuses_script scripts bytes behind some front more =
     refuses scripts bytes some
     (λ rest ends e. let same : behind ≡ rest = cc in let other : is_line_end behind ≡ true = ap is_line_end same ∙ ends in cc)
@@ -177,38 +180,15 @@ refuses_script scripts bytes behind some front more =
 -- no script was begun
 pub refuses_first : (scripts : List (List Command)) (bytes : List ℕ) (count : ℕ) → false ≡ is_line_end bytes
     → ((rest : List ℕ) → bytes ≢ codes "script" ++ rest) → count ≡ length scripts → true ≡ (count == 0)
-    → RefusesLine (IsRefused scripts) bytes
+    → RefusesLine AreScripts IsFirstRefused bytes scripts
 refuses_first scripts bytes count some other counted none =
     let zero_count : count ≡ 0 = grind (arith, nat_tests) in
     refuses scripts bytes some (λ rest ends e. other rest e)
     (λ begun command rest fits ends e. absurd (omega (arith, some_script scripts begun)))
 
-pub refuses_start : (scripts : List (List Command)) (bytes : List ℕ) → false ≡ is_line_end bytes
-    → ((rest : List ℕ) → bytes ≢ codes "script" ++ rest) → ReadsFront Fits command_line bytes None → RefusesLine (IsRefused scripts) bytes
-refuses_start scripts bytes some other read =
-    refuses scripts bytes some (λ rest ends e. other rest e)
-    (λ begun command rest fits ends e. let none = read.only command rest fits (word_ends rest ends) e in cc)
-
-pub refuses_more : (scripts : List (List Command)) (bytes behind : List ℕ) (command : Command) → false ≡ is_line_end bytes
-    → ((rest : List ℕ) → bytes ≢ codes "script" ++ rest) → ReadsFront Fits command_line bytes (Some (command, behind))
-    → false ≡ is_line_end behind
-    → RefusesLine (IsRefused scripts) bytes
-refuses_more scripts bytes behind command some other read more =
-    refuses scripts bytes some (λ rest ends e. other rest e)
-    (λ begun c rest fits ends e. let same = (some_pair_parts command c behind rest (read.only c rest fits (word_ends rest ends) e)).1 in cc)
-
--- ---- All lines
-
-pub first_refused : (bytes rest : List ℕ) (scripts : List (List Command)) (count : ℕ) → Progress AreScripts bytes rest scripts count
-    → RefusesLine (IsRefused scripts) rest → IsFirstRefused (lines_of bytes) (count + 1)
-first_refused bytes rest scripts count p r =
-    record {
-      before = p.before;
-      scripts = scripts;
-      line = r.line;
-      after = r.after;
-      all = p.all ∙ ap (λ xs. p.before ++ xs) r.first;
-      place = ap (λ n. n + 1) p.counted;
-      good = p.are;
-      bad = r.refused;
-    }
+-- nothing was read of the line, or less than the line
+pub refuses_read : (scripts : List (List Command)) (bytes : List ℕ) (read : Option (Command × List ℕ)) → false ≡ is_line_end bytes
+    → ((rest : List ℕ) → bytes ≢ codes "script" ++ rest) → ReadsFront Fits command_line bytes read
+    → IfSome read (λ x. false ≡ is_line_end x.1) → RefusesLine AreScripts IsFirstRefused bytes scripts
+refuses_read scripts bytes read some other h more =
+    refuses scripts bytes some (λ rest ends e. other rest e) (λ begun. no_line Fits command_line bytes read h more)

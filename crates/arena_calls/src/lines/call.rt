@@ -1,29 +1,22 @@
 // Reads a call from the front of a line.
 ghost use Rattle.std.specs.Prelude.{IfOk, codes};
+ghost use Rattle.std.specs.Option.{option_transpose};
 ghost use Rattle.call_rules.specs.Grammar.{Fits, call_line};
 ghost use Rattle.line_parts.specs.Reads.{Reads};
-ghost use Rattle.arena_calls.specs.Lines.{FitsPlacing, placing_fields, BeginsWith};
+ghost use Rattle.arena_calls.specs.Lines.{BeginsWith};
 
 use call_rules::Call;
-use line_parts::{behind, field, hex_bytes, name_field};
+use line_parts::{behind, byte_field, field, hex_bytes, name_field};
 use std::alloc::{AllocError, Global};
-
-// A name, a size, an alignment and a fill byte, and what follows them.
-fn placing(bytes: &[u8]) -> Option<((u32, u64, u64, u8), &[u8])>
-    ensures { Reads FitsPlacing placing_fields bytes.now result }
-{
-    let (name, rest) = name_field(bytes)?;
-    let (size, rest) = field(rest, u64::MAX)?;
-    let (align, rest) = field(rest, u64::MAX)?;
-    let (fill, rest) = field(rest, u64::from(u8::MAX))?;
-    Some(((name, size, align, fill as u8), rest))
-}
 
 fn read_alloc(bytes: &[u8]) -> Option<(Call, &[u8])>
     ensures { Reads (BeginsWith (codes "alloc ")) call_line bytes.now result }
 {
     let rest = behind(bytes, b"alloc")?;
-    let ((name, size, align, fill), rest) = placing(rest)?;
+    let (name, rest) = name_field(rest)?;
+    let (size, rest) = field(rest, u64::MAX)?;
+    let (align, rest) = field(rest, u64::MAX)?;
+    let (fill, rest) = byte_field(rest)?;
     let call = Call::Alloc {
         name,
         size,
@@ -37,7 +30,10 @@ fn read_grow(bytes: &[u8]) -> Option<(Call, &[u8])>
     ensures { Reads (BeginsWith (codes "g")) call_line bytes.now result }
 {
     let rest = behind(bytes, b"grow")?;
-    let ((name, size, align, fill), rest) = placing(rest)?;
+    let (name, rest) = name_field(rest)?;
+    let (size, rest) = field(rest, u64::MAX)?;
+    let (align, rest) = field(rest, u64::MAX)?;
+    let (fill, rest) = byte_field(rest)?;
     let call = Call::Grow {
         name,
         size,
@@ -73,25 +69,17 @@ fn read_read(bytes: &[u8]) -> Option<(Call, &[u8])>
     Some((Call::Read { name }, rest))
 }
 
-fn read_write(alloc: Global, bytes: &[u8]) -> Result<Option<(Call, &[u8])>, AllocError>
-    ensures { IfOk result (λ o. Reads (BeginsWith (codes "w")) call_line bytes.now o) }
+fn read_write(alloc: Global, bytes: &[u8]) -> Option<Result<(Call, &[u8]), AllocError>>
+    ensures { IfOk (option_transpose result) (λ o. Reads (BeginsWith (codes "w")) call_line bytes.now o) }
 {
-    let Some(rest) = behind(bytes, b"write") else {
-        return Ok(None);
-    };
-    let Some((name, rest)) = name_field(rest) else {
-        return Ok(None);
-    };
-    let Some((at, rest)) = field(rest, u64::MAX) else {
-        return Ok(None);
-    };
-    let Some(rest) = behind(rest, b" ") else {
-        return Ok(None);
-    };
+    let rest = behind(bytes, b"write")?;
+    let (name, rest) = name_field(rest)?;
+    let (at, rest) = field(rest, u64::MAX)?;
+    let rest = behind(rest, b" ")?;
     match hex_bytes(alloc, rest) {
-        Ok(Some((bytes, rest))) => Ok(Some((Call::Write { name, at, bytes }, rest))),
-        Ok(None) => Ok(None),
-        Err(failed) => Err(failed),
+        Ok(Some((bytes, rest))) => Some(Ok((Call::Write { name, at, bytes }, rest))),
+        Ok(None) => None,
+        Err(failed) => Some(Err(failed)),
     }
 }
 
@@ -157,7 +145,7 @@ pub fn read_call(alloc: Global, bytes: &[u8]) -> Result<Option<(Call, &[u8])>, A
         b'r' => Ok(read_read_or_reset(bytes)),
         b's' => Ok(read_shrink(bytes)),
         b'u' => Ok(read_used(bytes)),
-        b'w' => read_write(alloc, bytes),
+        b'w' => read_write(alloc, bytes).transpose(),
         _ => Ok(None),
     }
 }
