@@ -35,59 +35,62 @@ fn kept<C: ChunkSource + Drop>(arena: Allocator<C>) -> Starved<C>
     Starved::Refused(source)
 }
 
-// The result for a piece that there is no memory for.
-pub(crate) fn unserved<C: ChunkSource, W: Work<C>>(alloc: Global, work: &W) -> Served<W::Outcome, C>
-    ensures { IsUnserved W.terms result }
-{
-    Served {
-        outcome: work.unserved(alloc),
-        starved: None,
-    }
+// The pool and the work that the workers of one run share.
+#[derive(Drop)]
+pub(crate) struct Crew<'p, 'w, K: ChunkMaker, L: PoolName, W> {
+    pub(crate) alloc: Global,
+    pub(crate) pool: &'p AllocatorPool<K, L>,
+    pub(crate) work: &'w W,
 }
 
-// Does the work on one piece, on an arena of the pool. An arena whose newest chunk ends too high is given up, and
-// another is taken.
-pub(crate) fn serve<R: Wait, K: ChunkMaker, L: PoolName, W: Work<K::Chunks>>(
-    rt: &R,
-    alloc: Global,
-    pool: &AllocatorPool<K, L>,
-    work: &W,
-    piece: &W::Piece,
-) -> Served<W::Outcome, K::Chunks>
-    requires { W.terms.accepts piece.now }
-    ensures { IsServed K.Chunks.source L.kind W.terms piece.now result }
-{
-    for _ in rt.forever() {
-        let Ok(mut guard) = pool.get_wait(rt) else {
-            break;
-        };
-        if !is_high(guard.parts_mut()) {
-            return serve_on(rt, alloc, guard, work, piece);
+impl<'p, 'w, K: ChunkMaker, L: PoolName, W: Work<K::Chunks>> Crew<'p, 'w, K, L, W> {
+    // The result for a piece that there is no memory for.
+    pub(crate) fn unserved(&self) -> Served<W::Outcome, K::Chunks>
+        ensures { IsUnserved W.terms result }
+    {
+        Served {
+            outcome: self.work.unserved(self.alloc),
+            starved: None,
         }
-        let _ = guard.give_up(rt);
     }
-    unserved(alloc, work)
-}
 
-// Does the work on one piece, on a lent arena.
-fn serve_on<R: Wait, K: ChunkMaker, L: PoolName, W: Work<K::Chunks>>(
-    rt: &R,
-    alloc: Global,
-    mut guard: AllocatorGuard<'_, K, L>,
-    work: &W,
-    piece: &W::Piece,
-) -> Served<W::Outcome, K::Chunks>
-    requires accepted { W.terms.accepts piece.now }
-    requires unused { IsUnused L.kind guard.0 }
-    requires low { LiesLow guard.0.memory.state }
-    ensures { IsServed K.Chunks.source L.kind W.terms piece.now result }
-{
-    let outcome = work.run(alloc, guard.parts_mut(), piece);
-    let starved = if work.is_refused(&outcome) {
-        Some(kept(guard.give_up(rt)))
-    } else {
-        guard.put_back(rt);
-        None
-    };
-    Served { outcome, starved }
+    // Does the work on one piece, on an arena of the pool. An arena whose newest chunk ends too high is given up, and
+    // another is taken.
+    pub(crate) fn serve<R: Wait>(&self, rt: &R, piece: &W::Piece) -> Served<W::Outcome, K::Chunks>
+        requires { W.terms.accepts piece.now }
+        ensures { IsServed K.Chunks.source L.kind W.terms piece.now result }
+    {
+        for _ in rt.forever() {
+            let Ok(mut guard) = self.pool.get_wait(rt) else {
+                break;
+            };
+            if !is_high(guard.parts_mut()) {
+                return self.serve_on(rt, guard, piece);
+            }
+            let _ = guard.give_up(rt);
+        }
+        self.unserved()
+    }
+
+    // Does the work on one piece, on a lent arena.
+    fn serve_on<R: Wait>(
+        &self,
+        rt: &R,
+        mut guard: AllocatorGuard<'_, K, L>,
+        piece: &W::Piece,
+    ) -> Served<W::Outcome, K::Chunks>
+        requires accepted { W.terms.accepts piece.now }
+        requires unused { IsUnused L.kind guard.0 }
+        requires low { LiesLow guard.0.memory.state }
+        ensures { IsServed K.Chunks.source L.kind W.terms piece.now result }
+    {
+        let outcome = self.work.run(self.alloc, guard.parts_mut(), piece);
+        let starved = if self.work.is_refused(&outcome) {
+            Some(kept(guard.give_up(rt)))
+        } else {
+            guard.put_back(rt);
+            None
+        };
+        Served { outcome, starved }
+    }
 }

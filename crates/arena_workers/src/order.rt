@@ -4,49 +4,48 @@ ghost use Rattle.std.specs.List.{AllZip};
 ghost use Rattle.arena_workers.specs.Working.{IsServed};
 ghost use Rattle.arena_workers.specs.Order.{IsShift};
 
-use crate::lent::unserved;
+use crate::lent::Crew;
 use crate::served::Served;
 use crate::shift::Shift;
 use crate::work::Work;
-use arena_chunks::ChunkSource;
-use arena_pool::{AllocatorPool, ChunkMaker, PoolName};
-use std::alloc::{AllocError, Global};
+use arena_chunks::{ChunkSource, OutOfMemory};
+use arena_pool::{ChunkMaker, PoolName};
 
-// Puts what the workers did into the order of the pieces. A piece that no worker had the memory to claim is unserved.
-pub(crate) fn in_order<K: ChunkMaker, L: PoolName, W: Work<K::Chunks>>(
-    alloc: Global,
-    pool: &AllocatorPool<K, L>,
-    work: &W,
-    pieces: &[W::Piece],
-    shifts: Vec<Shift<W::Outcome, K::Chunks>>,
-) -> Result<Vec<Served<W::Outcome, K::Chunks>>, AllocError>
-    requires { All (λ shift. IsShift (IsServed K.Chunks.source L.kind W.terms) pieces.now shift.items) shifts.items }
-    ensures { IfOk result (λ all. AllZip (IsServed K.Chunks.source L.kind W.terms) pieces.now all.items) }
-{
-    let mut all = Vec::with_capacity(alloc, pieces.len())?;
-    for _piece in pieces {
-        all.push_reserved(unserved(alloc, work));
+impl<'p, 'w, K: ChunkMaker, L: PoolName, W: Work<K::Chunks>> Crew<'p, 'w, K, L, W> {
+    // Puts what the workers did into the order of the pieces. A piece that no worker had the memory to claim is
+    // unserved.
+    pub(crate) fn in_order(
+        &self,
+        pieces: &[W::Piece],
+        shifts: Vec<Shift<W::Outcome, K::Chunks>>,
+    ) -> Result<Vec<Served<W::Outcome, K::Chunks>>, OutOfMemory>
+        requires { All (λ shift. IsShift (IsServed K.Chunks.source L.kind W.terms) pieces.now shift.items) shifts.items }
+        ensures { IfOk result (λ all. AllZip (IsServed K.Chunks.source L.kind W.terms) pieces.now all.items) }
+    {
+        let mut all = Vec::with_capacity(self.alloc, pieces.len())?;
+        for _piece in pieces {
+            all.push_reserved(self.unserved());
+        }
+        for shift in shifts {
+            self.place(pieces, &mut all, shift);
+        }
+        Ok(all)
     }
-    for shift in shifts {
-        place(pool, work, pieces, &mut all, shift);
-    }
-    Ok(all)
-}
 
-// Puts each outcome of a worker into its place.
-fn place<K: ChunkMaker, L: PoolName, W: Work<K::Chunks>>(
-    _pool: &AllocatorPool<K, L>,
-    _work: &W,
-    pieces: &[W::Piece],
-    all: &mut Vec<Served<W::Outcome, K::Chunks>>,
-    shift: Shift<W::Outcome, K::Chunks>,
-)
-    requires all { AllZip (IsServed K.Chunks.source L.kind W.terms) pieces.now all.old.items }
-    requires shift { IsShift (IsServed K.Chunks.source L.kind W.terms) pieces.now shift.items }
-    ensures { AllZip (IsServed K.Chunks.source L.kind W.terms) pieces.now all.new.items }
-{
-    for (i, served) in shift {
-        put(all, i, served);
+    // Puts each outcome of a worker into its place.
+    fn place(
+        &self,
+        pieces: &[W::Piece],
+        all: &mut Vec<Served<W::Outcome, K::Chunks>>,
+        shift: Shift<W::Outcome, K::Chunks>,
+    )
+        requires all { AllZip (IsServed K.Chunks.source L.kind W.terms) pieces.now all.old.items }
+        requires shift { IsShift (IsServed K.Chunks.source L.kind W.terms) pieces.now shift.items }
+        ensures { AllZip (IsServed K.Chunks.source L.kind W.terms) pieces.now all.new.items }
+    {
+        for (i, served) in shift {
+            put(all, i, served);
+        }
     }
 }
 

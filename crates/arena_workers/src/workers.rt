@@ -5,12 +5,12 @@ ghost use Rattle.arena_workers.specs.Working.{IsServed};
 ghost use Rattle.arena_workers.specs.Order.{IsShift};
 
 use crate::gate::Gate;
-use crate::order::in_order;
+use crate::lent::Crew;
 use crate::served::Served;
-use crate::shift::{Shift, shift};
+use crate::shift::Shift;
 use crate::work::Work;
 use arena_pool::{AllocatorPool, ChunkMaker, ClaimSeat, Claims, OutOfMemory, PoolName};
-use std::alloc::{AllocError, Global};
+use std::alloc::Global;
 use std::sync::Wait;
 use std::thread;
 use std::thread::Threads;
@@ -21,7 +21,7 @@ fn seats(
     claims: &Claims,
     mut seat: ClaimSeat,
     workers: u32,
-) -> Result<Vec<ClaimSeat>, AllocError>
+) -> Result<Vec<ClaimSeat>, OutOfMemory>
     requires seat { seat.table ≡ claims.now }
     requires some { 0 < workers }
     ensures { IfOk result (λ v. All (λ s. s.table ≡ claims.now) v.items) }
@@ -32,41 +32,6 @@ fn seats(
     }
     all.push_reserved(seat);
     Ok(all)
-}
-
-// Each seat goes to a worker, and each worker does its shift.
-fn share_out<
-    R: Threads + Wait + Sync,
-    K: ChunkMaker + Drop + Send,
-    L: PoolName + Send + Sync,
-    G: Gate + Sync,
-    W: Work<K::Chunks> + Sync,
->(
-    rt: &R,
-    alloc: Global,
-    pool: &AllocatorPool<K, L>,
-    claims: &Claims,
-    seats: Vec<ClaimSeat>,
-    gate: &G,
-    work: &W,
-    pieces: &[W::Piece],
-) -> Result<Vec<Served<W::Outcome, K::Chunks>>, AllocError>
-    requires seats { All (λ s. s.table ≡ claims.now) seats.items }
-    requires words { length pieces.now ≡ claims.now.words }
-    requires few { length pieces.now < 2 ^ 32 }
-    requires accepted { All W.terms.accepts pieces.now }
-    ensures { IfOk result (λ all. AllZip (IsServed K.Chunks.source L.kind W.terms) pieces.now all.items) }
-{
-    let shifts = thread::map_vec(
-        rt,
-        seats,
-        &|seat: ClaimSeat| -> Shift<W::Outcome, K::Chunks>
-            requires { (seat.table ≡ claims.now) × (length pieces.now ≡ claims.now.words) × (length pieces.now < 2 ^ 32)
-                × All W.terms.accepts pieces.now }
-            ensures { IsShift (IsServed K.Chunks.source L.kind W.terms) pieces.entry.now result.items }
-        { shift(rt, alloc, pool, claims, seat, gate, work, pieces) },
-    )?;
-    in_order(alloc, pool, work, pieces, shifts)
 }
 
 /// Does each piece of work on at most `workers` threads, and never more than there are pieces, and returns the results
@@ -108,6 +73,17 @@ pub fn run_all<
     }
     let count = pieces.len() as u32;
     let (claims, seat) = Claims::new(alloc, count).map_err(|_| OutOfMemory)?;
-    let seats = seats(alloc, &claims, seat, workers.min(count)).map_err(|_| OutOfMemory)?;
-    share_out(rt, alloc, pool, &claims, seats, gate, work, pieces).map_err(|_| OutOfMemory)
+    let seats = seats(alloc, &claims, seat, workers.min(count))?;
+    let crew = Crew { alloc, pool, work };
+    // Each seat goes to a worker, and each worker does its shift.
+    let shifts = thread::map_vec(
+        rt,
+        seats,
+        &|seat: ClaimSeat| -> Shift<W::Outcome, K::Chunks>
+            requires { (seat.table ≡ claims) × (length pieces.now ≡ claims.words) × (length pieces.now < 2 ^ 32)
+                × All W.terms.accepts pieces.now }
+            ensures { IsShift (IsServed K.Chunks.source L.kind W.terms) pieces.entry.now result.items }
+        { crew.shift(rt, &claims, seat, gate, pieces) },
+    )?;
+    crew.in_order(pieces, shifts)
 }

@@ -2,7 +2,7 @@ use Rattle.std.specs.List.{AllZip}
 use Rattle.std.specs.Vec.Iter.{into_iter_items}
 use Rattle.arena_workers.specs.Working.{IsServed}
 use Rattle.arena_workers.specs.Order.{IsShift}
-use Rattle.arena_workers.proofs.order.place.Given as goal
+use Rattle.arena_workers.proofs.lent.Crew.place.Given as goal
 
 abbrev pub invariant-loop-i : goal.invariant-loop-i
 invariant-loop-i g l =

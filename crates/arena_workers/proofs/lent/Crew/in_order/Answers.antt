@@ -3,7 +3,7 @@ use Rattle.std.proofs.lemmas.List.Elements.{All-push}
 use Rattle.arena_workers.specs.Working.{IsServed, IsUnserved}
 use Rattle.arena_workers.specs.Order.{IsShift}
 use Rattle.arena_workers.proofs.OrderLemmas.{all_zip, first_and_rest}
-use Rattle.arena_workers.proofs.order.in_order.Goals as goal
+use Rattle.arena_workers.proofs.lent.Crew.in_order.Goals as goal
 
 pub loop-piece-preserved : goal.loop-piece-preserved
 loop-piece-preserved g c =

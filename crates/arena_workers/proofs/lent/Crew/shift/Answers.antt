@@ -1,7 +1,7 @@
 use Rattle.std.proofs.Common.{subst}
 use Rattle.arena_workers.specs.Working.{IsServed}
 use Rattle.arena_workers.proofs.OrderLemmas.{longer}
-use Rattle.arena_workers.proofs.shift.shift.Goals as goal
+use Rattle.arena_workers.proofs.lent.Crew.shift.Goals as goal
 
 pub loop-i-preserved : goal.loop-i-preserved
 loop-i-preserved g c =

@@ -3,7 +3,7 @@ use Rattle.std.proofs.lemmas.Slice.Zip.{AllZip-long}
 use Rattle.arena_workers.specs.Working.{IsServed}
 use Rattle.arena_workers.specs.Order.{IsOf}
 use Rattle.arena_workers.proofs.OrderLemmas.{places, first_and_rest}
-use Rattle.arena_workers.proofs.order.place.Goals as goal
+use Rattle.arena_workers.proofs.lent.Crew.place.Goals as goal
 
 pub loop-i-preserved : goal.loop-i-preserved
 loop-i-preserved g c =

@@ -1,7 +1,7 @@
 use Rattle.std.proofs.Common.{◌≡◌}
 use Rattle.arena_workers.specs.Working.{IsServed}
 use Rattle.arena_workers.specs.Order.{IsShift}
-use Rattle.arena_workers.proofs.shift.shift.Given as goal
+use Rattle.arena_workers.proofs.lent.Crew.shift.Given as goal
 
 abbrev pub invariant-loop-i : goal.invariant-loop-i
 invariant-loop-i g l =

@@ -3,7 +3,7 @@ use Rattle.std.specs.List.{AllZip}
 use Rattle.std.specs.Vec.Iter.{into_iter_items}
 use Rattle.arena_workers.specs.Working.{IsServed, IsUnserved}
 use Rattle.arena_workers.specs.Order.{IsShift}
-use Rattle.arena_workers.proofs.order.in_order.Given as goal
+use Rattle.arena_workers.proofs.lent.Crew.in_order.Given as goal
 
 abbrev pub invariant-loop-piece : goal.invariant-loop-piece
 invariant-loop-piece g l =
