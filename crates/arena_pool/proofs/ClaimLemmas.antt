@@ -2,6 +2,7 @@
 use Rattle.std.proofs.Common.{◌≡◌, ◌≢◌, ℕ, zero, suc, ◌+◌, ◌<◌, ◌≤◌, ◌⊎◌, List, [], ◌∷◌, ◌++◌, map, take, length, get_or, set, sym, refl, ap, ◌∙◌, subst, inl, inr, ⊎_elim, if◌then◌else◌, false, arith}
 use Rattle.std.proofs.lemmas.Bool.Decides.{nat_tests}
 use Rattle.std.proofs.Math.ListN.{length-set}
+use Rattle.std.proofs.lemmas.List.{set-get_or}
 use Rattle.std.proofs.Common.{get_or-set_other, get_or-set_same}
 use mathlib.Core.Option.{some, none, some-injective, some-ne-none}
 use lib.ListN.{get_elem?}
@@ -65,21 +66,16 @@ claims-set w (x ∷ xs) (suc id) v u at = omega (arith, claims-set w xs id v u a
 -- a view has no more claims than all
 pub claims-at : (w : ℕ) (views : List ClaimView) (id : ℕ) (v : ClaimView) → get_elem? views id ≡ some v
     → times w v.claimed ≤ claims_of w views
-claims-at w [] id v at = absurd (some-ne-none v (sym at))
-claims-at w (x ∷ xs) zero v at = let e : times w x.claimed ≡ times w v.claimed =
-    ap (λ (y : ClaimView). times w y.claimed) (some-injective x v at) in omega arith
-claims-at w (x ∷ xs) (suc id) v at = omega (arith, claims-at w xs id v at)
+claims-at w views id v at = omega (arith, claims-set w views id v new_view at)
 
 -- nor have two
 pub claims-two : (w : ℕ) (views : List ClaimView) (i j : ℕ) (u v : ClaimView) → get_elem? views i ≡ some u → get_elem? views j ≡ some v
     → i ≢ j → times w u.claimed + times w v.claimed ≤ claims_of w views
-claims-two w [] i j u v at there apart = absurd (some-ne-none u (sym at))
-claims-two w (x ∷ xs) zero zero u v at there apart = absurd (apart refl)
-claims-two w (x ∷ xs) zero (suc j) u v at there apart = let e = ap (λ (y : ClaimView). times w y.claimed) (some-injective x u at) in
-    omega (arith, e, claims-at w xs j v there)
-claims-two w (x ∷ xs) (suc i) zero u v at there apart = let e = ap (λ (y : ClaimView). times w y.claimed) (some-injective x v there) in
-    omega (arith, e, claims-at w xs i u at)
-claims-two w (x ∷ xs) (suc i) (suc j) u v at there apart = omega (arith, claims-two w xs i j u v at there (λ e. apart (ap suc e)))
+claims-two w views i j u v at there apart = omega (
+  arith,
+  claims-set w views i u new_view at,
+  claims-at w (set views i new_view) j v (set_else views i j new_view (λ e. apart (sym e)) ∙ there),
+)
 
 -- the claims after a view is added
 pub claims-snoc : (w : ℕ) (views : List ClaimView) (v : ClaimView) → claims_of w (views ++ v ∷ []) ≡ claims_of w views + times w v.claimed
@@ -91,11 +87,6 @@ pub bit : (k : ℕ) → k ≤ 1 → (k ≡ 0) ⊎ (k ≡ 1)
 bit zero h = inl refl
 bit (suc zero) h = inr refl
 bit (suc (suc k)) h = absurd (omega arith)
-
--- a number is 0 or above
-pub zero_or : (k : ℕ) → (k ≡ 0) ⊎ (0 < k)
-zero_or zero = inl refl
-zero_or (suc k) = inr (omega arith)
 
 -- the words after a write: the word itself, or another
 pub written : (ws : List ℕ) (i k w : ℕ) → i < length ws
@@ -120,19 +111,30 @@ changed n words views id v u after kept at size counted bits grows own = record 
       (λ t. grows w (kept.taken seat x t.1 w some_times)) (at_set views id seat u x found);
 }
 
+-- a step that changes no word keeps it too, if the view claims what it did
+looked : (n : ℕ) (words : List ℕ) (views : List ClaimView) (id : ℕ) (v u : ClaimView) (after : List ℕ) → IsKept n words views
+    → get_elem? views id ≡ some v → after ≡ words → ((w : ℕ) → times w v.claimed ≡ times w u.claimed)
+    → ((w : ℕ) → 0 < times w u.taken → get_or words w 0 ≡ 1) → IsKept n after (set views id u)
+looked n words views id v u after kept at same claimed own = subst (λ (ws : List ℕ). IsKept n ws (set views id u)) (sym same)
+    (changed n words views id v u words kept at kept.size (λ w. omega (arith, claimed w)) kept.bits (λ w one. one) own)
+
+found_taken : (n : ℕ) (words : List ℕ) (views : List ClaimView) (id : ℕ) (v : ClaimView) (i : ℕ) (after : List ℕ) → IsKept n words views
+    → get_elem? views id ≡ some v → after ≡ words → get_or words i 0 ≡ 1 → IsKept n after (set views id (with_taken i v))
+found_taken n words views id v i after kept at same one = looked n words views id v (with_taken i v) after kept at same (λ w. refl)
+    (λ w some_times. dite (ℕ_discrete w i) (λ e. ap (λ (j : ℕ). get_or words j 0) e ∙ one)
+    (λ ne. kept.taken id v at w (omega (arith, times-append w v.taken (i ∷ []), times-other w i ne))))
+
 -- a word that is 0 was not claimed, nor found taken
 pub unknown : (n : ℕ) (words : List ℕ) (views : List ClaimView) (id : ℕ) (v : ClaimView) (i : ℕ) → IsKept n words views
     → get_elem? views id ≡ some v → get_or words i 0 ≡ 0 → times i v.claimed + times i v.taken ≡ 0
 unknown n words views id v i kept at z =
-    ⊎_elim (λ none_taken. omega (arith, kept.counted i, claims-at i views id v at))
-    (λ some_taken. absurd (omega (arith, kept.taken id v at i some_taken))) (zero_or (times i v.taken))
+    grind (arith, kept.counted i, claims-at i views id v at, kept.taken id v at i, z)
 
 -- a word that one of two seats found taken is 1
 pub either_one : (n : ℕ) (words : List ℕ) (views : List ClaimView) (id other : ℕ) (v u : ClaimView) (w : ℕ) → IsKept n words views
     → get_elem? views id ≡ some v → get_elem? views other ≡ some u → 0 < times w v.taken + times w u.taken → get_or words w 0 ≡ 1
 either_one n words views id other v u w kept at there some_times =
-    ⊎_elim (λ none_taken. kept.taken other u there w (omega arith)) (λ some_taken. kept.taken id v at w some_taken)
-    (zero_or (times w v.taken))
+    grind (arith, kept.taken other u there w, kept.taken id v at w, some_times)
 
 -- two views that claim a word are one
 pub one_claims : (n : ℕ) (words : List ℕ) (views : List ClaimView) → IsKept n words views → ClaimedOnce views
@@ -187,21 +189,19 @@ module _ {S : Type 0} where
       → Allows (Kept n) slots id me i (λ _. 1) (Swapped (step slots i 1 0 none) me)
   swaps n slots id me i here s kept homes at fits =
       let inside : i < length s.words = omega (arith, kept.size) in
-      let size : length (set s.words i 1) ≡ n = simp length-set kept.size in
-      let bits : (w : ℕ) → get_or (set s.words i 1) w 0 ≤ 1 =
-      λ w. ⊎_elim (λ t. omega arith) (λ t. omega (arith, kept.bits w)) (written s.words i 1 w inside) in
       let grows : (w : ℕ) → get_or s.words w 0 ≡ 1 → get_or (set s.words i 1) w 0 ≡ 1 = λ w one.
       ⊎_elim (λ t. t.1) (λ t. t.1 ∙ one) (written s.words i 1 w inside) in
       ⊎_elim
       (λ z.
-      let claimed = changed n s.words s.views id me.0 (with_claimed i me.0) (set s.words i 1) kept at size
+      let claimed = changed n s.words s.views id me.0 (with_claimed i me.0) (set s.words i 1) kept at (simp length-set kept.size)
       (λ w. ⊎_elim
       (λ t. let one : times w (i ∷ []) ≡ 1 = subst (λ (j : ℕ). times w (j ∷ []) ≡ 1) t.0 (times-same w) in
       let was : get_or s.words w 0 ≡ 0 = ap (λ (j : ℕ). get_or s.words j 0) t.0 ∙ z in
       omega (arith, times-append w me.0.claimed (i ∷ [])))
       (λ t. omega (arith, times-append w me.0.claimed (i ∷ []), times-other w i t.0))
       (written s.words i 1 w inside))
-      bits grows
+      (λ w. ⊎_elim (λ t. omega arith) (λ t. omega (arith, kept.bits w)) (written s.words i 1 w inside))
+      grows
       (λ w some_times. grows w (kept.taken id me.0 at w some_times)) in (
         with_claimed i me.0,
         keeps,
@@ -210,14 +210,8 @@ module _ {S : Type 0} where
         (refl, inl (z, refl, unknown n s.words s.views id me.0 i kept at z), own_once n s.views id me.0 _ _ claimed at),
       ))
       (λ o.
-      let taken = changed n s.words s.views id me.0 (with_taken i me.0) (set s.words i 1) kept at size
-      (λ w. ⊎_elim (λ t. let was : get_or s.words w 0 ≡ 1 = ap (λ (j : ℕ). get_or s.words j 0) t.0 ∙ o in omega arith) (λ t. omega arith)
-      (written s.words i 1 w inside))
-      bits grows
-      (λ w some_times. ⊎_elim
-      (λ t. t.1)
-      (λ t. grows w (kept.taken id me.0 at w (omega (arith, times-append w me.0.taken (i ∷ []), times-other w i t.0))))
-      (written s.words i 1 w inside)) in
+      let same = subst (λ (k : ℕ). set s.words i k ≡ s.words) o (set-get_or s.words i 0) in
+      let taken = found_taken n s.words s.views id me.0 i (set s.words i 1) kept at same o in
       (with_taken i me.0, keeps, tt, taken, (refl, inr (o, refl), own_once n s.views id me.0 _ _ taken at)))
       (bit (get_or s.words i 0) (kept.bits i))
 
@@ -225,34 +219,20 @@ module _ {S : Type 0} where
   pub loads : (n slots id : ℕ) (me : Me S ClaimView) (i : ℕ) → i < n
       → Allows (Kept n) slots id me i (λ k. k) (Loaded (step slots i 0 0 none) me)
   loads n slots id me i here s kept homes at fits =
-      let inside : i < length s.words = omega (arith, kept.size) in
       let now = set s.words i (get_or s.words i 0) in
-      let size : length now ≡ n = simp length-set kept.size in
-      let stays : (w : ℕ) → get_or now w 0 ≡ get_or s.words w 0 = λ w. ⊎_elim (λ t. t.1 ∙ ap (λ (j : ℕ). get_or s.words j 0) (sym t.0))
-      (λ t. t.1) (written s.words i (get_or s.words i 0) w inside) in
-      let bits : (w : ℕ) → get_or now w 0 ≤ 1 = λ w. omega (arith, stays w, kept.bits w) in
-      let grows : (w : ℕ) → get_or s.words w 0 ≡ 1 → get_or now w 0 ≡ 1 = λ w one. stays w ∙ one in
+      let same : now ≡ s.words = set-get_or s.words i 0 in
       ⊎_elim
       (λ z.
-      let free = changed n s.words s.views id me.0 (with_free i me.0) now kept at size
-      (λ w. omega (arith, stays w)) bits grows
-      (λ w some_times. grows w (kept.taken id me.0 at w some_times)) in (
+      let free = looked n s.words s.views id me.0 (with_free i me.0) now kept at same (λ w. refl)
+      (λ w some_times. kept.taken id me.0 at w some_times) in (
         with_free i me.0,
         keeps,
         tt,
         free,
-        (
-          refl,
-          inl (z, refl, unknown n s.words s.views id me.0 i kept at z),
-          own_once n s.views id me.0 _ _ free at,
-        ),
+        (refl, inl (z, refl, unknown n s.words s.views id me.0 i kept at z), own_once n s.views id me.0 _ _ free at),
       ))
       (λ o.
-      let taken = changed n s.words s.views id me.0 (with_taken i me.0) now kept at size
-      (λ w. omega (arith, stays w)) bits grows
-      (λ w some_times. dite (ℕ_discrete w i)
-      (λ e. stays w ∙ (ap (λ (j : ℕ). get_or s.words j 0) e ∙ o))
-      (λ ne. grows w (kept.taken id me.0 at w (omega (arith, times-append w me.0.taken (i ∷ []), times-other w i ne))))) in
+      let taken = found_taken n s.words s.views id me.0 i now kept at same o in
       (with_taken i me.0, keeps, tt, taken, (refl, inr (o, refl), own_once n s.views id me.0 _ _ taken at)))
       (bit (get_or s.words i 0) (kept.bits i))
 

@@ -1,5 +1,5 @@
 -- The calls on an arena keep its kind.
-use Rattle.std.proofs.Common.{◌≡◌, ℕ, ◌*◌, inl, inr, Result, Ok, Err, List, [], ◌∷◌, sym, ◌∙◌, subst}
+use Rattle.std.proofs.Common.{ℕ, ◌*◌, inl, inr, Result, Ok, Err, List, [], ◌∷◌, ◌∙◌}
 use Rattle.std.proofs.lemmas.Bool.{cases_Bool}
 use Rattle.arena_rules.specs.Rounding.{is_layout}
 use Rattle.arena_rules.specs.Moves.{Resizing}
@@ -8,7 +8,7 @@ use Rattle.arena_chunks.specs.Source.{View}
 use Rattle.arena_chunks.specs.Frame.{Frame, padded}
 use Rattle.arena_chunks.specs.Answers.{Answer}
 use Rattle.arena_chunks.specs.Answers.Answer.{Placed, Refused, Exhausted}
-use Rattle.arena_chunks.specs.BlockCalls.{PlacesAfter, PlacesBlock, ResizesAfter, ResizesBlock, GivesBack, WritesBlock}
+use Rattle.arena_chunks.specs.BlockCalls.{PlacesBlock, ResizesBlock, GivesBack, WritesBlock}
 use Rattle.arena_store.specs.declared.block.Block.{Block}
 use Rattle.arena_items.specs.Placing.{Answers, PlacesArray}
 use Rattle.arena_items.specs.declared.boxes.Box.{Box}
@@ -29,36 +29,19 @@ frame_of_kind kind old new before after frame of_kind = record {
 
 -- ---- The calls on blocks
 
--- If the memory is the same, so is the kind.
-same_of_kind : (kind : PoolKind) (old new : Memory) → new ≡ old → IsOfKind kind old.state → IsOfKind kind new.state
-same_of_kind kind old new same of_kind = subst (λ (m : Memory). IsOfKind kind m.state) (sym same) of_kind
-
-same_view : (kind : PoolKind) (old new : View) → new ≡ old → IsOfKind kind old.memory.state → IsOfKind kind new.memory.state
-same_view kind old new same of_kind = subst (λ (a : View). IsOfKind kind a.memory.state) (sym same) of_kind
-
-placed_after : (kind : PoolKind) (old new : View) (size align k : ℕ) (answer : Answer) → PlacesAfter old new size align k answer
-    → IsOfKind kind old.memory.state → IsOfKind kind new.memory.state
-placed_after kind old new size align k (Placed b) after of_kind =
-    frame_of_kind kind old.memory new.memory [] (b ∷ []) after.outcome.frame of_kind
-placed_after kind old new size align k (Refused n) after of_kind = same_of_kind kind old.memory new.memory after.outcome.1.memory of_kind
-placed_after kind old new size align k Exhausted after of_kind = same_view kind old new after.outcome.same of_kind
-
 pub placed_of_kind : (kind : PoolKind) (old new : View) (size align : ℕ) (answer : Answer) → PlacesBlock old new size align answer
     → IsOfKind kind old.memory.state → IsOfKind kind new.memory.state
-placed_of_kind kind old new size align answer places = placed_after kind old new size align places.0 answer places.1
-
-resized_after : (kind : PoolKind) (way : Resizing) (old new : View) (block : Block) (size align k : ℕ) (answer : Answer)
-    → ResizesAfter way old new block size align k answer → IsOfKind kind old.memory.state → IsOfKind kind new.memory.state
-resized_after kind way old new block size align k (Placed b) after of_kind =
-    frame_of_kind kind old.memory new.memory (block ∷ []) (b ∷ []) after.outcome.frame of_kind
-resized_after kind way old new block size align k (Refused n) after of_kind =
-    same_of_kind kind old.memory new.memory after.outcome.1.memory of_kind
-resized_after kind way old new block size align k Exhausted after of_kind = same_view kind old new after.outcome.1.same of_kind
+placed_of_kind kind old new size align (Placed b) places of_kind =
+    frame_of_kind kind old.memory new.memory [] (b ∷ []) places.1.outcome.frame of_kind
+placed_of_kind kind old new size align (Refused n) places of_kind = rw places.1.outcome.1.memory of_kind
+placed_of_kind kind old new size align Exhausted places of_kind = rw places.1.outcome.same of_kind
 
 pub resized_of_kind : (kind : PoolKind) (way : Resizing) (old new : View) (block : Block) (size align : ℕ) (answer : Answer)
     → ResizesBlock way old new block size align answer → IsOfKind kind old.memory.state → IsOfKind kind new.memory.state
-resized_of_kind kind way old new block size align answer resizes =
-    resized_after kind way old new block size align resizes.0 answer resizes.1
+resized_of_kind kind way old new block size align (Placed b) resizes of_kind =
+    frame_of_kind kind old.memory new.memory (block ∷ []) (b ∷ []) resizes.1.outcome.frame of_kind
+resized_of_kind kind way old new block size align (Refused n) resizes of_kind = rw resizes.1.outcome.1.memory of_kind
+resized_of_kind kind way old new block size align Exhausted resizes of_kind = rw resizes.1.outcome.1.same of_kind
 
 pub returned_of_kind : (kind : PoolKind) (old new : Memory) (block : Block) → GivesBack old new block → IsOfKind kind old.state
     → IsOfKind kind new.state
@@ -74,7 +57,7 @@ pub array_of_kind : (kind : PoolKind) (old new : View) (size align n : ℕ) (ans
     → IsOfKind kind old.memory.state → IsOfKind kind new.memory.state
 array_of_kind kind old new size align n answer places of_kind = elim (cases_Bool (is_layout (n * size) align)) [
   | inl is ↦ placed_of_kind kind old new (n * size) align answer (places.placed is) of_kind
-  | inr none ↦ same_view kind old new (places.refused none).same of_kind
+  | inr none ↦ rw (places.refused none).same of_kind
 ]
 
 -- whatever a call that places a value returns

@@ -38,14 +38,12 @@ reset_is_unused kind arena valid of_kind = record {
 
 -- a new arena that grows
 pub new_standard : (arena : View) → IsNew Standard arena → IsUnused Standard arena
-new_standard arena new =
-    let P : Memory → Type 0 = λ memory. IsUnused Standard (view memory arena.source) in
-    subst P (sym new.memory) (record {
-      valid = growing_valid 1 refl;
-      used = refl;
-      statistics = refl;
-      of_kind = record { growing = refl; region = λ bytes is. cc };
-    })
+new_standard arena new = record {
+  valid = rw new.memory (growing_valid 1 refl);
+  used = rw new.memory refl;
+  statistics = rw new.memory refl;
+  of_kind = rw new.memory (record { growing = refl; region = λ bytes is. cc });
+}
 
 -- No new arena exceeds a limit: one that grows has no bytes yet, and a fixed pool has no limit.
 pub empty_within : (limit : Option ℕ) (arena : View) → IsNew Standard arena → IsWithin limit arena

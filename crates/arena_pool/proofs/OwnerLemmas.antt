@@ -1,6 +1,7 @@
 -- Each step keeps the rule of two owners.
 use Rattle.std.proofs.Common.{◌≡◌, ◌≢◌, ℕ, zero, suc, ◌+◌, ◌<◌, ◌≤◌, ◌⊎◌, List, [], ◌∷◌, ◌++◌, map, length, get_or, set, sym, refl, ap, ◌∙◌, subst, inl, inr, ⊎_elim, get_or-set_same, Option, Some, None, arith}
 use Rattle.std.proofs.Math.ListN.{length-set}
+use Rattle.std.proofs.lemmas.List.{map-set}
 use mathlib.Core.Option.{some, none, some-injective, some-ne-none}
 use mathlib.Core.Logic.{◌↔◌}
 use lib.ListN.{get_elem?}
@@ -17,12 +18,6 @@ module _ {A : Type 0} where
   only : (x v : A) (id : ℕ) → get_elem? (x ∷ []) id ≡ some v → (id ≡ 0) × (x ≡ v)
   only x v zero at = (refl, some-injective x v at)
   only x v (suc id) at = absurd (some-ne-none v (sym at))
-
-  -- a change in a list, and in its image
-  map-set : {B : Type 0} (f : A → B) (l : List A) (i : ℕ) (a : A) → map f (set l i a) ≡ set (map f l) i (f a)
-  map-set f [] i a = refl
-  map-set f (x ∷ xs) zero a = refl
-  map-set f (x ∷ xs) (suc i) a = λ k. f x ∷ map-set f xs i a k
 
   -- the item in a list of two equal items
   both : (x v : A) (seat : ℕ) → get_elem? (x ∷ x ∷ []) seat ≡ some v → x ≡ v
@@ -61,19 +56,26 @@ module _ {X : Type 0} where
       → (id ≡ 0) × (owner_view a k ≡ v)
   alone a k s id v made at = only (owner_view a k) v id (subst (λ (vs : List (OwnerView X)). get_elem? vs id ≡ some v) made.1 at)
 
-  -- a view at one stage isn't one at another
-  other_stage : (a : X) (k n : ℕ) (s : State (Option X) (OwnerView X)) (id : ℕ) (v : OwnerView X) → Setup a k s
-      → get_elem? s.views id ≡ some v → v.stage ≡ n → k ≢ n → ⊥
-  other_stage a k n s id v made at stage apart = apart (ap (λ (u : OwnerView X). u.stage) (alone a k s id v made at).1 ∙ stage)
+  -- what the rule says of a state with a view at this stage
+  abbrev ByStage : X → State (Option X) (OwnerView X) → ℕ → Type 0
+  ByStage a s zero = Setup a 0 s × (s.homes ≡ some None ∷ [])
+  ByStage a s (suc zero) = Setup a 1 s × (s.homes ≡ none ∷ [])
+  ByStage a s (suc (suc zero)) = Setup a 2 s × (s.homes ≡ some (Some a) ∷ [])
+  ByStage a s (suc (suc (suc k))) = IsShared a s
+
+  by_stage : (a : X) (s : State (Option X) (OwnerView X)) (id : ℕ) (v : OwnerView X) → Shares a s → get_elem? s.views id ≡ some v
+      → ByStage a s v.stage
+  by_stage a s id v holds at =
+      let is : (k : ℕ) → Setup a k s → k ≡ v.stage = λ k made. ap (λ (u : OwnerView X). u.stage) (alone a k s id v made at).1 in
+      ⊎_elim
+      (λ l. ⊎_elim (λ h. subst (ByStage a s) (is 0 h.0) h) (λ h. subst (ByStage a s) (is 1 h.0) h) l)
+      (λ r. ⊎_elim (λ h. subst (ByStage a s) (is 2 h.0) h) (λ h. subst (ByStage a s) (sym (h.each id v at).0) h) r)
+      holds
 
   -- an owner's state is shared
   shared : (a : X) (s : State (Option X) (OwnerView X)) (id : ℕ) (v : OwnerView X) → Shares a s → get_elem? s.views id ≡ some v
       → v.stage ≡ 3 → IsShared a s
-  shared a s id v holds at stage = ⊎_elim
-      (λ l. ⊎_elim (λ h. absurd (other_stage a 0 3 s id v h.0 at stage (omega arith)))
-      (λ h. absurd (other_stage a 1 3 s id v h.0 at stage (omega arith))) l)
-      (λ r. ⊎_elim (λ h. absurd (other_stage a 2 3 s id v h.0 at stage (omega arith))) (λ h. h) r)
-      holds
+  shared a s id v holds at stage = subst (ByStage a s) stage (by_stage a s id v holds at)
 
   -- besides one of two views there is another
   other : (views : List (OwnerView X)) (i : ℕ) (v : OwnerView X) → length views ≡ 2 → get_elem? views i ≡ some v
@@ -131,70 +133,36 @@ module _ {X : Type 0} where
       ∙ sum 0 s.views i j v u sh.pair at to apart in
       (λ one. omega (arith, one, none0, both), λ some_times. omega (arith, some_times, none0, both, sh.kept.bits 0))
 
-  -- a step on the first slot during setup: the views and the words afterwards
-  views_after : (a b : X) (k n : ℕ) (s : State (Option X) (OwnerView X)) (id : ℕ) (v : OwnerView X) → Setup a k s
-      → get_elem? s.views id ≡ some v → set s.views id (owner_view b n) ≡ owner_view b n ∷ []
-  views_after a b k n s id v made at =
-      let w : OwnerView X = owner_view b n in
+  -- a step on the first slot during setup: the views afterwards
+  views_after : (a : X) (k n : ℕ) (s : State (Option X) (OwnerView X)) (id : ℕ) (v : OwnerView X) → Setup a k s
+      → get_elem? s.views id ≡ some v → set s.views id (owner_view a n) ≡ owner_view a n ∷ []
+  views_after a k n s id v made at =
+      let w : OwnerView X = owner_view a n in
       subst (λ (i : ℕ). set s.views i w ≡ w ∷ []) (sym (alone a k s id v made at).0) (ap (λ (vs : List (OwnerView X)). set vs 0 w) made.1)
-
-  -- nor is an owner one of a table during setup
-  not_shared : (a : X) (n : ℕ) (s : State (Option X) (OwnerView X)) (id : ℕ) (v : OwnerView X) → IsShared a s
-      → get_elem? s.views id ≡ some v → v.stage ≡ n → 3 ≢ n → ⊥
-  not_shared a n s id v sh at stage apart = apart (sym (sh.each id v at).0 ∙ stage)
-
-  -- the seat takes the empty slot
-  takes_here : (a : X) (slots id : ℕ)
-      → Allows (Shares a) slots id (owner_view a 0, []) 0 (λ n. n) (Took (step slots 0 0 0 none) (owner_view a 0, []))
-  takes_here a slots id s holds homes at fits =
-      let v : OwnerView X = owner_view a 0 in
-      ⊎_elim
-      (λ l. ⊎_elim
-      (λ h. (
-        owner_view a 1,
-        takes 0 None,
-        ap (λ hs. get_elem? hs 0) h.1,
-        inl (inr ((words_after s.words h.0.0, views_after a a 0 1 s id v h.0 at), ap (λ hs. set hs 0 none) h.1)),
-        refl,
-      ))
-      (λ h. absurd (other_stage a 1 0 s id v h.0 at refl (omega arith)))
-      l)
-      (λ r. ⊎_elim (λ h. absurd (other_stage a 2 0 s id v h.0 at refl (omega arith)))
-      (λ h. absurd (not_shared a 0 s id v h at refl (omega arith))) r)
-      holds
 
   -- the seat takes the empty slot, if its view is at that stage
   pub takes_slot : (a : X) (slots id : ℕ) (me : Me (Option X) (OwnerView X)) → me ≡ (owner_view a 0, [])
       → Allows (Shares a) slots id me 0 (λ n. n) (Took (step slots 0 0 0 none) me)
-  takes_slot a slots id me is = subst (λ (m : Me (Option X) (OwnerView X)). Allows (Shares a) slots id m 0 (λ n. n)
-      (Took (step slots 0 0 0 none) m)) (sym is) (takes_here a slots id)
-
-  -- the seat gives the full slot
-  gives_here : (a : X) (slots id : ℕ)
-      → Allows (Shares a) slots id (owner_view a 1, (0, Some a) ∷ []) 0 (λ n. n)
-      (Gave (step slots 0 0 0 none) (owner_view a 1, (0, Some a) ∷ []))
-  gives_here a slots id s holds homes at fits =
-      let v : OwnerView X = owner_view a 1 in
-      ⊎_elim
-      (λ l. ⊎_elim
-      (λ h. absurd (other_stage a 0 1 s id v h.0 at refl (omega arith)))
-      (λ h. (
-        owner_view a 2,
-        gives,
-        tt,
-        inr (inl ((words_after s.words h.0.0, views_after a a 1 2 s id v h.0 at), ap (λ hs. set hs 0 (some (Some a))) h.1)),
+  takes_slot a slots id me is = rw is (λ s holds homes at fits.
+      let h : ByStage a s 0 = by_stage a s id (owner_view a 0) holds at in (
+        owner_view a 1,
+        takes 0 None,
+        ap (λ hs. get_elem? hs 0) h.1,
+        inl (inr ((words_after s.words h.0.0, views_after a 0 1 s id _ h.0 at), ap (λ hs. set hs 0 none) h.1)),
         refl,
       ))
-      l)
-      (λ r. ⊎_elim (λ h. absurd (other_stage a 2 1 s id v h.0 at refl (omega arith)))
-      (λ h. absurd (not_shared a 1 s id v h at refl (omega arith))) r)
-      holds
 
   -- the seat gives the full slot, if its view is at that stage
   pub gives_slot : (a : X) (slots id : ℕ) (me : Me (Option X) (OwnerView X)) → me ≡ (owner_view a 1, (0, Some a) ∷ [])
       → Allows (Shares a) slots id me 0 (λ n. n) (Gave (step slots 0 0 0 none) me)
-  gives_slot a slots id me is = subst (λ (m : Me (Option X) (OwnerView X)). Allows (Shares a) slots id m 0 (λ n. n)
-      (Gave (step slots 0 0 0 none) m)) (sym is) (gives_here a slots id)
+  gives_slot a slots id me is = rw is (λ s holds homes at fits.
+      let h : ByStage a s 1 = by_stage a s id (owner_view a 1) holds at in (
+        owner_view a 2,
+        gives,
+        tt,
+        inr (inl ((words_after s.words h.0.0, views_after a 1 2 s id _ h.0 at), ap (λ hs. set hs 0 (some (Some a))) h.1)),
+        refl,
+      ))
 
   -- two owners that know nothing share
   begun : (a : X) (s : State (Option X) (OwnerView X)) → s.words ≡ 0 ∷ 0 ∷ [] → s.views ≡ owner_view a 3 ∷ owner_view a 3 ∷ []
@@ -219,25 +187,12 @@ module _ {X : Type 0} where
     home = λ z. homes;
   }
 
-  -- the one seat becomes two owners
-  parts_here : (a : X) (id : ℕ) → Splits (Shares a) id (owner_view a 2) (owner_view a 3) (owner_view a 3)
-  parts_here a id s holds at =
-      let v : OwnerView X = owner_view a 2 in
-      ⊎_elim
-      (λ l. ⊎_elim (λ h. absurd (other_stage a 0 2 s id v h.0 at refl (omega arith)))
-      (λ h. absurd (other_stage a 1 2 s id v h.0 at refl (omega arith))) l)
-      (λ r. ⊎_elim
-      (λ h. inr (inr (begun a _ h.0.0 (ap (λ (vs : List (OwnerView X)). vs ++ owner_view a 3 ∷ []) (views_after a a 2 3 s id v h.0 at))
-      h.1)))
-      (λ h. absurd (not_shared a 2 s id v h at refl (omega arith)))
-      r)
-      holds
-
   -- the one seat becomes two owners, if its view is at that stage
   pub parts : (a : X) (id : ℕ) (v : OwnerView X) → v ≡ owner_view a 2
       → Splits (Shares a) id v (owner_view v.shared 3) (owner_view v.shared 3)
-  parts a id v is = subst (λ (u : OwnerView X). Splits (Shares a) id u (owner_view u.shared 3) (owner_view u.shared 3)) (sym is)
-      (parts_here a id)
+  parts a id v is = rw is (λ s holds at.
+      let h : ByStage a s 2 = by_stage a s id (owner_view a 2) holds at in
+      inr (inr (begun a _ h.0.0 (ap (λ (vs : List (OwnerView X)). vs ++ owner_view a 3 ∷ []) (views_after a 2 3 s id _ h.0 at)) h.1)))
 
   -- the claims of an owner keep the rule if its view does
   stays : (a : X) (s : State (Option X) (OwnerView X)) (id : ℕ) (v : OwnerView X) (l : ClaimView) (ws : List ℕ)

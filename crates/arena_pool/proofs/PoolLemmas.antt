@@ -12,7 +12,7 @@ use Rattle.arena_pool.specs.declared.kind.PoolKind.TheVariants.{Standard, FixedS
 use Rattle.arena_pool.specs.declared.book.PoolErr.{PoolErr}
 use Rattle.arena_pool.specs.declared.book.PoolErr.TheVariants.{PoolEmpty, OutOfMemory, Limit}
 use Rattle.arena_pool.specs.Kinds.{is_fixed, HasLimit, is_within, IsWithin, IsOfKind, HasId, reset_view}
-use Rattle.arena_pool.specs.Pool.{Pool, Pooled, IsPool, IsPooled, LendsNone, Gets, can_take, most_lent, store, put, give_up}
+use Rattle.arena_pool.specs.Pool.{Pool, Pooled, IsPool, IsPooled, Gets, can_take, most_lent, store, put, give_up}
 use Rattle.arena_pool.proofs.KindLemmas.{new_standard, empty_within, reset_is_unused}
 
 -- A list that something was appended to isn't empty.
@@ -136,13 +136,10 @@ answers_limit p q (Err Limit) gets none standard most = refl
 answers_limit p q (Err OutOfMemory) gets none standard most = absurd (omega (arith, gets.0.2))
 
 -- A get that needn't wait is refused for lack of memory alone.
-goes : (p : Pool) (e : PoolErr) → IsTrue (can_take p) → LendsNone p e → e ≡ OutOfMemory
-goes p PoolEmpty can refused = let h = rw (refused.0, refused.1) at can in grind (arith, nat_tests)
-goes p Limit can refused = let h = rw (refused.0, refused.1, refused.2) at can in grind (arith, nat_tests)
-goes p OutOfMemory can refused = refl
-
 pub answers_at_once : (p q : Pool) (e : PoolErr) → Gets p (Err e) q → IsTrue (can_take p) → e ≡ OutOfMemory
-answers_at_once p q e gets can = goes p e can gets.0
+answers_at_once p q PoolEmpty gets can = let h = rw (gets.0.0, gets.0.1) at can in grind (arith, nat_tests)
+answers_at_once p q Limit gets can = let h = rw (gets.0.0, gets.0.1, gets.0.2) at can in grind (arith, nat_tests)
+answers_at_once p q OutOfMemory gets can = refl
 
 -- If an arena is stored, or can be made, it is lent at once.
 takes_stored : (p : Pool) → p.lent < most_lent → 0 < length p.stack → IsTrue (can_take p)

@@ -1,5 +1,5 @@
 // What a pool keeps: the arenas that are stored, and its counts.
-ghost use Rattle.std.specs.Prelude.{◌≡◌, ◌+◌, ◌%◌, ◌<◌, ◌≤◌, None, Some, IfOk};
+ghost use Rattle.std.specs.Prelude.{◌≡◌, ◌+◌, ◌%◌, ◌<◌, ◌≤◌, None, Some, IfOk, IsOk};
 ghost use Rattle.arena_pool.specs.Kinds.{HasId, IsOfKind};
 ghost use Rattle.arena_pool.specs.Pool.{Begins, Gets, IsPool, IsPooled, put, give_up};
 ghost use Rattle.arena_pool.specs.declared.kind.PoolKind.TheVariants.{Standard, FixedSize};
@@ -61,11 +61,12 @@ impl<K: ChunkMaker> Book<K> {
     ///
     /// # Errors
     ///
-    /// Out of memory for the table of arenas.
+    /// Out of memory for the table of arenas; never with 0.
     pub fn new(alloc: Global, count: u32, maker: K) -> Result<Book<K>, OutOfMemory>
     where
         K: Drop,
-        ensures { IfOk result (Begins Standard None count) }
+        ensures begins { IfOk result (Begins Standard None count) }
+        ensures none { count ≡ 0 → IsOk result }
     {
         let stock = Stock::of_kind(alloc, PoolKind::Standard, None, count, maker)?;
         Ok(Book { stock })
@@ -76,7 +77,7 @@ impl<K: ChunkMaker> Book<K> {
     ///
     /// # Errors
     ///
-    /// Out of memory for the table of arenas.
+    /// Out of memory for the table of arenas; never with 0.
     pub fn new_with_limit(
         alloc: Global,
         count: u32,
@@ -85,7 +86,8 @@ impl<K: ChunkMaker> Book<K> {
     ) -> Result<Book<K>, OutOfMemory>
     where
         K: Drop,
-        ensures { IfOk result (Begins Standard (Some limit) count) }
+        ensures begins { IfOk result (Begins Standard (Some limit) count) }
+        ensures none { count ≡ 0 → IsOk result }
     {
         let stock = Stock::of_kind(alloc, PoolKind::Standard, Some(limit), count, maker)?;
         Ok(Book { stock })
@@ -95,7 +97,7 @@ impl<K: ChunkMaker> Book<K> {
     ///
     /// # Errors
     ///
-    /// Out of memory for the table of arenas or for a region.
+    /// Out of memory for the table of arenas or for a region; never with 0 arenas.
     pub fn new_fixed(
         alloc: Global,
         count: u32,
@@ -106,7 +108,8 @@ impl<K: ChunkMaker> Book<K> {
         K: Drop,
         requires units { bytes % 16 ≡ 0 }
         requires room { 48 ≤ bytes }
-        ensures { IfOk result (Begins (FixedSize bytes) None count) }
+        ensures begins { IfOk result (Begins (FixedSize bytes) None count) }
+        ensures none { count ≡ 0 → IsOk result }
     {
         let stock = Stock::of_kind(alloc, PoolKind::FixedSize { bytes }, None, count, maker)?;
         Ok(Book { stock })

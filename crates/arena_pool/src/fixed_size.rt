@@ -28,7 +28,7 @@ impl<K: ChunkMaker, L: PoolName> FixedSizeAllocatorPool<K, L> {
     ///
     /// # Errors
     ///
-    /// Out of memory.
+    /// Out of memory; never with 0 arenas.
     pub fn new(
         alloc: Global,
         thread_count: u32,
@@ -43,6 +43,7 @@ impl<K: ChunkMaker, L: PoolName> FixedSizeAllocatorPool<K, L> {
         requires limit { L.limit ≡ None }
         requires units { bytes % 16 ≡ 0 }
         requires room { 48 ≤ bytes }
+        ensures none { thread_count ≡ 0 → IsOk result }
     {
         let stock = Stock::of_kind(
             alloc,

@@ -28,7 +28,7 @@ impl<K: ChunkMaker, L: PoolName> AllocatorPool<K, L> {
     ///
     /// # Errors
     ///
-    /// Out of memory.
+    /// Out of memory; never with 0 arenas.
     pub fn of_kind(
         alloc: Global,
         kind: PoolKind,
@@ -44,6 +44,7 @@ impl<K: ChunkMaker, L: PoolName> AllocatorPool<K, L> {
         requires limit { L.limit ≡ limit }
         requires regions { HasRegions kind }
         requires unlimited { HasLimit kind limit }
+        ensures none { count ≡ 0 → IsOk result }
     {
         let stock = Stock::of_kind(alloc, kind, limit, count, maker)?;
         Ok(AllocatorPool {
@@ -56,7 +57,7 @@ impl<K: ChunkMaker, L: PoolName> AllocatorPool<K, L> {
     ///
     /// # Errors
     ///
-    /// Out of memory.
+    /// Out of memory; never with 0 arenas.
     pub fn new(
         alloc: Global,
         thread_count: u32,
@@ -68,6 +69,7 @@ impl<K: ChunkMaker, L: PoolName> AllocatorPool<K, L> {
         requires blank { IsBlankOf L.name L.parts blank }
         requires kind { L.kind ≡ Standard }
         requires limit { L.limit ≡ None }
+        ensures none { thread_count ≡ 0 → IsOk result }
     {
         AllocatorPool::of_kind(alloc, PoolKind::Standard, None, thread_count, maker, blank)
     }
@@ -77,7 +79,7 @@ impl<K: ChunkMaker, L: PoolName> AllocatorPool<K, L> {
     ///
     /// # Errors
     ///
-    /// Out of memory.
+    /// Out of memory; never with 0 arenas.
     pub fn new_with_limit(
         alloc: Global,
         thread_count: u32,
@@ -90,6 +92,7 @@ impl<K: ChunkMaker, L: PoolName> AllocatorPool<K, L> {
         requires blank { IsBlankOf L.name L.parts blank }
         requires kind { L.kind ≡ Standard }
         requires limit { L.limit ≡ Some limit }
+        ensures none { thread_count ≡ 0 → IsOk result }
     {
         let limit = Some(limit);
         AllocatorPool::of_kind(alloc, PoolKind::Standard, limit, thread_count, maker, blank)
@@ -99,7 +102,7 @@ impl<K: ChunkMaker, L: PoolName> AllocatorPool<K, L> {
     ///
     /// # Errors
     ///
-    /// Out of memory.
+    /// Out of memory; never with 0 arenas.
     pub fn new_fixed_size(
         alloc: Global,
         thread_count: u32,
@@ -114,6 +117,7 @@ impl<K: ChunkMaker, L: PoolName> AllocatorPool<K, L> {
         requires limit { L.limit ≡ None }
         requires units { bytes % 16 ≡ 0 }
         requires room { 48 ≤ bytes }
+        ensures none { thread_count ≡ 0 → IsOk result }
     {
         let kind = PoolKind::FixedSize { bytes };
         AllocatorPool::of_kind(alloc, kind, None, thread_count, maker, blank)

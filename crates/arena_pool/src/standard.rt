@@ -1,5 +1,5 @@
 // A standard pool that lends bare arenas.
-ghost use Rattle.std.specs.Prelude.{◌≡◌, None, IfOk};
+ghost use Rattle.std.specs.Prelude.{◌≡◌, None, IfOk, IsOk};
 ghost use Rattle.arena_pool.specs.Kinds.{IsOfKind, IsUnused};
 ghost use Rattle.arena_pool.specs.Names.{IsBlankOf};
 ghost use Rattle.arena_pool.specs.declared.kind.PoolKind.TheVariants.{Standard};
@@ -28,7 +28,7 @@ impl<K: ChunkMaker, L: PoolName> StandardAllocatorPool<K, L> {
     ///
     /// # Errors
     ///
-    /// Out of memory.
+    /// Out of memory; never with 0 arenas.
     pub fn new(
         alloc: Global,
         thread_count: u32,
@@ -40,6 +40,7 @@ impl<K: ChunkMaker, L: PoolName> StandardAllocatorPool<K, L> {
         requires blank { IsBlankOf L.name L.parts blank }
         requires kind { L.kind ≡ Standard }
         requires limit { L.limit ≡ None }
+        ensures none { thread_count ≡ 0 → IsOk result }
     {
         let stock = Stock::of_kind(alloc, PoolKind::Standard, None, thread_count, maker)?;
         let pool = Shared::over(stock, blank);

@@ -1,5 +1,5 @@
 // The stored arenas of a pool, however they are packed, and its counts.
-ghost use Rattle.std.specs.Prelude.{◌≡◌, ◌+◌, ◌<◌, IfOk};
+ghost use Rattle.std.specs.Prelude.{◌≡◌, ◌+◌, ◌<◌, IfOk, IsOk};
 ghost use Rattle.arena_rules.specs.State.{allocated_bytes};
 ghost use Rattle.arena_pool.specs.Kinds.{is_fixed, is_within, HasId, HasLimit, HasRegions, IsNew, IsUnused, IsWithin};
 ghost use Rattle.arena_pool.specs.Pool.{Begins, Gets, LendsStored, IsPool, IsPooled, store, keep, give_up};
@@ -83,7 +83,8 @@ fn new_packed<K: ChunkMaker, P: Packing<Allocator<K::Chunks>>>(
 }
 
 impl<K: ChunkMaker, P: Packing<Allocator<K::Chunks>>> Stock<K, P> {
-    // Creates a pool with `count` new arenas, which stores no arena with more bytes than the limit.
+    // Creates a pool with `count` new arenas, which stores no arena with more bytes than the limit. With 0 it takes no
+    // memory.
     pub(crate) fn of_kind(
         alloc: Global,
         kind: PoolKind,
@@ -95,7 +96,8 @@ impl<K: ChunkMaker, P: Packing<Allocator<K::Chunks>>> Stock<K, P> {
         K: Drop,
         requires regions { HasRegions kind }
         requires limit { HasLimit kind limit }
-        ensures { IfOk result (Begins kind limit count) }
+        ensures begins { IfOk result (Begins kind limit count) }
+        ensures none { count ≡ 0 → IsOk result }
     {
         let mut maker = maker;
         let mut stack = Vec::with_capacity(alloc, count as usize)?;
