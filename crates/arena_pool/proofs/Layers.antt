@@ -23,3 +23,10 @@ pub ruleset kind_laws = (placed_of_kind, resized_of_kind, returned_of_kind, wrot
 
 -- what the events of a book leave
 pub ruleset event_laws = (got_is_lent, put_is_counted, put_unlimited)
+
+-- what a get and a put come to, and the rule of claims
+pub ruleset answer_laws = (answers_stored, answers_empty, answers_limit, answers_at_once, answers_waiting)
+
+pub ruleset put_laws = (put_is_kept, put_is_gone, put_unlimited, put_of_fixed, put_is_counted)
+
+pub ruleset claim_laws = (counts_views, one_claims, once_each, happened)

@@ -45,6 +45,7 @@ pub fn events()
 /// When a get is refused: if none is stored, by a fixed pool with `PoolEmpty`, and by a standard pool that has made
 /// 2^64 - 1 with `Limit`. Otherwise it lends an arena, or is out of memory for a new one. Under the lock it waits
 /// exactly if it would be refused in one of these two ways, or if `MOST_LENT` arenas are lent.
+#[tactic(auto, using(crate::proofs::Layers::answer_laws))]
 pub fn answers()
     ensures stored { (p q : Pool) (answer : Result Pooled PoolErr) → Gets p answer q → 0 < length p.stack
         → IsOk answer }
@@ -60,6 +61,7 @@ pub fn answers()
 /// What a put does. An arena that has no more bytes than the limit after its reset becomes the newest stored one, and
 /// so does every arena if there is no limit, as in a fixed pool. An arena that has more is given up. Either way one
 /// arena less is lent, and the kind and the limit are unchanged.
+#[tactic(auto, using(crate::proofs::Layers::put_laws))]
 pub fn puts()
     ensures kept { (p : Pool) (arena : View) (id : Option ℕ) (limit : ℕ) → p.limit ≡ Some limit
         → allocated_bytes (reset arena.memory.state) ≤ limit → put p arena id ≡ store p (reset_view arena, id) }
@@ -74,6 +76,7 @@ pub fn puts()
 {}
 
 /// The arena that was put last, if it is within the limit, is lent next, reset and with its id.
+#[tactic(auto, using(crate::proofs::Layers::put_is_newest))]
 pub fn newest()
     ensures { (p q : Pool) (arena : View) (id : Option ℕ) (lent : Pooled) → 0 < p.lent
         → IsWithin p.limit (reset_view arena)
@@ -81,6 +84,7 @@ pub fn newest()
 {}
 
 /// Calls keep the kind of an arena: each call with a frame, each call on blocks, whatever it returns, and a reset.
+#[tactic(auto, using(crate::proofs::Layers::kind_laws, crate::proofs::Layers::frame_of_kind, crate::proofs::Layers::reset_of_kind))]
 pub fn kinds()
     ensures frame { (kind : PoolKind) (old new : Memory) (before after : List Block)
         → Frame old new before after → IsOfKind kind old.state → IsOfKind kind new.state }
@@ -100,6 +104,7 @@ pub fn kinds()
 
 /// Calls that place values keep the kind of an arena: the premises are the fields `placed` of `PlacesBox` and
 /// `PlacesSlice`.
+#[tactic(auto, using(crate::proofs::Layers::kind_laws))]
 pub fn kinds_by_values<T>()
     ensures boxed { (kind : PoolKind) (old new : View) (size align : ℕ) (result : Result (Box T) ItemErr)
         → Answers (λ b. b.block) result (PlacesBlock old new size align)
@@ -118,6 +123,7 @@ pub fn unused()
 /// it, no two seats claim the same word, and none claims a word twice. In a sequence of swaps, by any threads, each
 /// finds 1 if an earlier one was of its word, and otherwise the word's first value: of all swaps of a word that was 0,
 /// the first alone finds 0.
+#[tactic(auto, using(crate::proofs::Layers::claim_laws))]
 pub fn claimed_once()
     ensures counted { (n : ℕ) (words : List ℕ) (views : List ClaimView) → IsKept n words views
         → (w : ℕ) → slice_index words w ≡ claimers w views }
