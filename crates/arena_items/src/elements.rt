@@ -123,7 +123,7 @@ pub fn put_item<T: Item, C: ChunkSource>(a: &mut Allocator<C>, block: Block, i: 
 
 /// Writes values after the first `i` of a block, in one pass.
 #[tactic(auto, using(arena_chunks::proofs::Layers::layer_laws, crate::proofs::ElementLemmas::list_laws))]
-#[inline]
+#[inline(always)]
 pub fn put_items<T: Item, C: ChunkSource>(a: &mut Allocator<C>, block: Block, i: u64, values: &[T])
     requires small { T.SIZE ≤ 2 ^ 24 }
     requires readable { IsTrue (is_readable a.old.memory.state block) }

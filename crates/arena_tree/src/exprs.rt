@@ -117,11 +117,11 @@ fn term<C: ChunkSource>(
     let Some(star) = star_at(src, end) else {
         return Ok(end);
     };
-    let mut list = first_of(a, *node)?;
+    let mut list = first_of(a, node)?;
     let mut here = star;
     loop {
         let stop = factor(a, src, here, deep, node)?;
-        push_node(a, &mut list, *node)?;
+        push_node(a, &mut list, node)?;
         match star_at(src, stop) {
             Some(more) => here = more,
             None => {
@@ -151,11 +151,11 @@ pub(crate) fn expr<C: ChunkSource>(
     let Some((mut minus, mut here)) = sign_at(src, end) else {
         return Ok(end);
     };
-    let mut list = first_of(a, *node)?;
+    let mut list = first_of(a, node)?;
     loop {
         let stop = term(a, src, here, deep, node)?;
         sign(a, minus, node)?;
-        push_node(a, &mut list, *node)?;
+        push_node(a, &mut list, node)?;
         match sign_at(src, stop) {
             Some((less, more)) => {
                 minus = less;

@@ -157,7 +157,7 @@ fn lines<C: ChunkSource>(
         match line(a, src, here, deep, &mut node)? {
             None => return Ok((list, here)),
             Some(end) => {
-                push_node(a, &mut list, node)?;
+                push_node(a, &mut list, &node)?;
                 here = end;
             }
         }

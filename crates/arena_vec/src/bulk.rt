@@ -22,6 +22,7 @@ impl<T: Item> Vec<T> {
     /// # Errors
     ///
     /// As for `try_reserve`. None of them was appended.
+    #[inline(always)]
     pub fn extend_from_slice<C: ChunkSource>(
         &mut self,
         a: &mut Allocator<C>,

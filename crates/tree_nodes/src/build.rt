@@ -2,7 +2,9 @@
 ghost use Rattle.std.specs.Prelude.{◌≡◌, ◌+◌, ◌^◌, ◌≤◌, List, [], ◌∷◌, ◌++◌, IfOk, OnOk, OnErr};
 ghost use Rattle.arena_chunks.specs.Memory.{Memory};
 ghost use Rattle.arena_chunks.specs.Frame.{Frame};
-ghost use Rattle.arena_vec.specs.Vecs.{IsVecIn};
+ghost use Rattle.arena_vec.specs.Changes.{Grows};
+ghost use Rattle.arena_vec.specs.Growth.{amortised_growth};
+ghost use Rattle.arena_vec.specs.Vecs.{IsVecIn, vec_list};
 ghost use Rattle.tree_rules.specs.Trees.{Expr};
 ghost use Rattle.tree_nodes.specs.TreesAt.{node_item, kids_of, no_kids, IsPlaced};
 ghost use Rattle.tree_nodes.specs.Subtrees.{Subtree, OfExpr, IsTreePlaced, IsRowBuilt};
@@ -16,6 +18,7 @@ use arena_chunks::{Allocator, Block, ChunkSource, Str};
 use arena_items::Grown;
 use arena_vec::Vec;
 use arena_vec::laws::{growth_costs, growth_rule, vector_costs};
+use std::slice;
 
 /// The node of a number.
 #[inline(always)]
@@ -72,6 +75,17 @@ pub fn with_kids(kind: Kind, list: Vec<Node>) -> Node
     }
 }
 
+// Appends a node as `Vec::push` does. By reference, the node is copied once, straight to its place.
+#[inline(always)]
+fn push<C: ChunkSource>(a: &mut Allocator<C>, list: &mut Vec<Node>, node: &Node) -> Grown<()>
+    requires { IsVecIn node_item a.old.memory list.old }
+    ensures { let growth = amortised_growth 88 list.old.raw.cap (list.old.raw.len + 1) in
+        let nodes = vec_list node_item a.old.memory list.old ++ node.now ∷ [] in
+        Grows node_item a.old a.new list.old growth nodes list.new result }
+{
+    list.extend_from_slice(a, slice::from_ref(node))
+}
+
 /// Appends a node to a list that is being built, by the growth rule of vectors: a full list is replaced by one of twice
 /// its capacity, and at first by one of one node. Costs at most 359 bytes besides what the list saved.
 ///
@@ -82,12 +96,12 @@ pub fn with_kids(kind: Kind, list: Vec<Node>) -> Node
 pub fn push_node<C: ChunkSource>(
     a: &mut Allocator<C>,
     list: &mut Vec<Node>,
-    node: Node,
+    node: &Node,
 ) -> Grown<()>
     requires held { IsVecIn node_item a.old.memory list.old }
     requires few { list.old.raw.len ≤ 2 ^ 24 }
     ensures row { (ts : List Subtree) (t : Subtree) (old one : Memory) → IsRowBuilt ts old one list.old
-        → IsTreePlaced t one a.old.memory node
+        → IsTreePlaced t one a.old.memory node.now
         → OnOk result (IsRowBuilt (ts ++ t ∷ []) old a.new.memory list.new) }
     ensures spends { Spends (LongerList list.old.raw.len list.old.raw.cap) node_cost (credit list.old)
         (credit list.new) a.old a.new (error_of result) }
@@ -101,7 +115,7 @@ pub fn push_node<C: ChunkSource>(
     vector_costs::<Node, ()>();
     // Provides that the least alignment is 1.
     a.known();
-    list.push(a, node)
+    push(a, list, node)
 }
 
 /// Wraps a node in one of a kind, as its only child. Asks for a list of one node.
@@ -117,7 +131,7 @@ pub fn wrap<C: ChunkSource>(a: &mut Allocator<C>, kind: Kind, node: &mut Node) -
     ensures err { OnErr result ((node.new ≡ node.old) × (a.new.memory ≡ a.old.memory)) }
 {
     let mut list = Vec::new_in();
-    push_node(a, &mut list, *node)?;
+    push_node(a, &mut list, node)?;
     *node = with_kids(kind, list);
     Ok(())
 }
@@ -128,8 +142,8 @@ pub fn wrap<C: ChunkSource>(a: &mut Allocator<C>, kind: Kind, node: &mut Node) -
 ///
 /// As `roomy`.
 #[inline(always)]
-pub fn first_of<C: ChunkSource>(a: &mut Allocator<C>, node: Node) -> Grown<Vec<Node>>
-    ensures tree { (e : Expr) (old : Memory) → IsPlaced e old a.old.memory node
+pub fn first_of<C: ChunkSource>(a: &mut Allocator<C>, node: &Node) -> Grown<Vec<Node>>
+    ensures tree { (e : Expr) (old : Memory) → IsPlaced e old a.old.memory node.now
         → IfOk result (IsRowBuilt (OfExpr e ∷ []) old a.new.memory) }
     ensures spends { Spends (ListOf 2) node_cost 0 0 a.old a.new (error_of result) }
     ensures len { IfOk result (λ v. v.raw.len ≡ 1) }
@@ -137,7 +151,7 @@ pub fn first_of<C: ChunkSource>(a: &mut Allocator<C>, node: Node) -> Grown<Vec<N
 {
     growth_rule();
     let mut list = roomy(a, 2)?;
-    match list.push(a, node) {
+    match push(a, &mut list, node) {
         Ok(()) => Ok(list),
         Err(_) => unreachable!(),
     }

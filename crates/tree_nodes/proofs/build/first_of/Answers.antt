@@ -11,7 +11,7 @@ pub unreachable-requires : goal.unreachable-requires
 unreachable-requires g c =
     let v = c.in_ok-list.list in
     let l = c.in_ok-list.ensures in
-    never_refused c.roomy.new.a c.push.new.a v c.push.new.self c.args.node
+    never_refused c.roomy.new.a c.push.new.a v c.push.new.list c.args.node.now
     (c.growth_rule.ensures.stays 88 v.raw.cap (v.raw.len + 1) (amortised 88 v.raw.cap (v.raw.len + 1)) (omega arith)) c.in-Err.field-0
     c.in-Err.ensures
 
@@ -25,7 +25,7 @@ pub returns-clause-spends : goal.returns-clause-spends
 returns-clause-spends g c =
     let v = c.in_ok-list.list in
     let l = c.in_ok-list.ensures in
-    let filled = fills c.roomy.new.a c.push.new.a v c.push.new.self c.args.node
+    let filled = fills c.roomy.new.a c.push.new.a v c.push.new.list c.args.node.now
     (c.growth_rule.ensures.stays 88 v.raw.cap (v.raw.len + 1) (amortised 88 v.raw.cap (v.raw.len + 1)) (omega arith)) c.in-Ok.ensures in
     spends_more (spends_same filled (asks_any l.spends)) (omega arith) (omega arith)
 

@@ -23,14 +23,14 @@ returns-clause-spends g c =
       doubles = c.growth_rule.ensures.doubles;
       grows = c.growth_rule.ensures.grows;
     })
-    c.args.a.now c.push.new.a c.args.list.now c.push.new.self _ c.known.ensures.state c.requires.held c.requires.few
-    (pushed_length (vec_list node_item c.args.a.now.memory c.args.list.now) c.args.node c.args.list.now.raw.len
+    c.args.a.now c.push.new.a c.args.list.now c.push.new.list _ c.known.ensures.state c.requires.held c.requires.few
+    (pushed_length (vec_list node_item c.args.a.now.memory c.args.list.now) c.args.node.now c.args.list.now.raw.len
     (length-elements 88 node_item.decoded c.args.list.now.raw.len _))
     c.push.result c.push.ensures
 
 pub returns-clause-len : goal.returns-clause-len
 returns-clause-len g c =
-    on_ok_weaker c.push.result (λ is. is ∙ pushed_length (vec_list node_item c.args.a.now.memory c.args.list.now) c.args.node
+    on_ok_weaker c.push.result (λ is. is ∙ pushed_length (vec_list node_item c.args.a.now.memory c.args.list.now) c.args.node.now
     c.args.list.now.raw.len (length-elements 88 node_item.decoded c.args.list.now.raw.len _)) c.push.ensures.len
 
 pub returns-clause-cap : goal.returns-clause-cap
