@@ -1,5 +1,5 @@
 -- Lists that are walked from both ends.
-use Rattle.std.proofs.Common.{◌≡◌, ℕ, suc, zero, ◌+◌, ◌-◌, ◌*◌, ◌<◌, ◌≤◌, List, [], ◌∷◌, ◌++◌, length, take, drop, refl, sym, ap, ◌∙◌, arith, Some, None, add-one}
+use Rattle.std.proofs.Common.{◌≡◌, ℕ, suc, zero, ◌+◌, ◌-◌, ◌*◌, ◌<◌, ◌≤◌, List, [], ◌∷◌, ◌++◌, length, take, drop, sym, ap, ◌∙◌, arith, Some, None, add-one}
 use Rattle.std.proofs.lemmas.Grind.{common_steps}
 use Rattle.std.proofs.Math.Nat.{add-mul}
 use Rattle.std.specs.Prelude.{slice_get, Option}
@@ -48,16 +48,6 @@ window-last xs f (suc b) x h e =
     let k : suc b - 1 ≡ b = omega arith in
     let at : slice_get xs b ≡ Some x = rw k at e in
     rw k (last xs f b x (omega arith) at)
-
--- The first value of a window,
-pub window_start : {T : Type 0} (xs : List T) (f b : ℕ) → f < b → slice_get xs f ≡ slice_get (window xs f b) 0
-unfolding window
-window_start [] f zero h = absurd (omega arith)
-window_start [] zero (suc b) h = refl
-window_start [] (suc f) (suc b) h = refl
-window_start (y ∷ xs) f zero h = absurd (omega arith)
-window_start (y ∷ xs) zero (suc b) h = refl
-window_start (y ∷ xs) (suc f) (suc b) h = window_start xs f b (omega arith)
 
 -- and what a walk gives first.
 pub first_left : {T S : Type 0} (rest : S → List T) (s t : S) (r : Option T) → YieldsFirst rest s r t → slice_get (rest s) 0 ≡ r
