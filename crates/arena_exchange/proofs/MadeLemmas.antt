@@ -78,9 +78,8 @@ beside_new old new bs after readable frame =
 
 -- Blocks placed after others, which are readable, are placed with them.
 pub frame_more : (old mid new : Memory) (bs cs : List Block) → Frame old mid [] bs → Frame mid new [] cs → Frame old new [] (bs ++ cs)
-frame_more old mid new bs cs first second = frame_then old mid new [] bs (bs ++ cs) first
-    (frame_weaken mid new [] bs cs (bs ++ cs) (λ addr n some apart. tt)
-    (λ addr n some apart rest. apart_both addr n bs cs apart rest) second)
+frame_more old mid new bs cs first second = frame_then _ _ _ _ _ _ first
+    (frame_weaken _ _ _ bs _ (bs ++ cs) (λ addr n some apart. tt) (λ addr n some apart rest. apart_both addr n bs cs apart rest) second)
 
 pub places_then : {xs ys : List Ask} {old mid new : View} {bs cs : List Block} {end : Option AllocError}
     → AreReadable mid.memory.state bs → PlacesAll xs old mid bs None → PlacesAll ys mid new cs end

@@ -141,17 +141,16 @@ module _ {T I : Type 0} (item : Ghosts T) (steps : I → Option T → I → Type
     | inr (e, is) ↦
         let grows = rw is at f.grows in
         let done = rw is at f.refused in
-        rw (done.answer, done.view, done.vec) (replaces_none iter old.memory f.between.memory v f.filled start end e [] iter
-        (none e f.between f.filled _ grows) grows.held
-        (ap (vec_list item f.between.memory) grows.err.0 ∙ ap (λ m. vec_list item m v) grows.err.1) refl grows.frame)
+        rw (done.answer, done.view, done.vec) (replaces_none iter _ _ v f.filled _ _ e [] iter (none e f.between f.filled _ grows)
+        grows.held (ap (vec_list item f.between.memory) grows.err.0 ∙ ap (λ m. vec_list item m v) grows.err.1) refl grows.frame)
     | inl is ↦
         let grows = rw is at f.grows in
         let len = replaced_len item old.memory v f.filled start end f.items within grows.len in
         elim (cases_lt (length f.items) places) [
           | inl short ↦
               let ended = (rw is at f.ended) short in
-              rw (ended.1.answer, ended.1.view, ended.1.vec) (replaces iter old.memory f.between.memory v f.filled start end (Ok tt) f.items
-              grows.held grows.list_is ended.0 tt grows.frame)
+              rw (ended.1.answer, ended.1.view, ended.1.vec) (replaces iter _ _ v f.filled start end (Ok tt) f.items grows.held
+              grows.list_is ended.0 tt grows.frame)
           | inr more ↦
               let all = (rw is at f.full) more in
               replaces_then iter f.now old.memory f.between.memory new.memory v f.filled w start end at f.items result within
@@ -192,9 +191,8 @@ module _ {T I : Type 0} {item : Ghosts T} {steps : I → Option T → I → Type
         splices : Splices item steps count iter old new v start end w result;
       }
   spliced {result} order tail fills = record {
-    replaces = fills_replaces item steps count iter old new v w Stays start end (end - start) end result _ (omega arith) (omega arith)
-        (λ e mid u list grows. absurd grows.made.0)
-        (λ now mid u more rest. more_replaces item steps count now mid new u w end result more rest) fills;
+    replaces = fills_replaces _ _ count _ _ _ _ _ _ _ _ _ end _ _ (omega arith) (omega arith) (λ e mid u list grows. absurd grows.made.0)
+        (λ now mid u more rest. more_replaces _ _ _ _ _ _ _ _ _ _ more rest) fills;
     splices = record { at_end = λ all. absurd (omega arith); before_tail = λ tail. fills };
   }
 
@@ -213,6 +211,5 @@ module _ {T I : Type 0} {item : Ghosts T} {steps : I → Option T → I → Type
       → TakesSome item steps count iter old new (record v { raw = record v.raw { len = start } }) w e
       → Replaces item steps iter old.memory new.memory v start end w (Err e)
   extends_some {e} order all held frame takes =
-      replaces item steps count iter old.memory new.memory v w start end (Err e) takes.items held
-      (takes.list_is ∙ at_end item old.memory v start end takes.items order all) tt
-      (takes.last ∷ [], takes.rest, taken item steps count iter old new _ w e takes) frame
+      replaces _ _ count _ _ _ _ _ _ _ _ takes.items held (takes.list_is ∙ at_end item old.memory v start _ takes.items order all) tt
+      (takes.last ∷ [], takes.rest, taken _ _ _ _ _ _ _ _ _ takes) frame

@@ -268,13 +268,12 @@ module _ {T : Type 0} {item : Ghosts T} where
       ∙ ap (elements size item.decoded n) (sym
       (take_bytes (image mid.memory) other.raw.block.addr other.raw.block.size (n * size) source_fits))
       ∙ elements-front size item.decoded n (bytes_of mid.memory other.raw.block) ∙ ap (elements size item.decoded n) beside.bytes in
-      grows_then wide.grows (becomes item mid new w w.raw.len (replace_range xs at at zs) wide.grows.held wide.grows.held.within
-      (wrote_same mid new w.raw.block (at * size) bytes writes source) writes.frame
-      (ap (elements size item.decoded w.raw.len) (wrote_part mid.memory new.memory w.raw.block (at * size) bytes writes fits)
-      ∙ elements-over size item.decoded at n w.raw.len (bytes_of mid.memory w.raw.block) bytes sized there
-      (omega (arith, room, length-bytes (image mid.memory) w.raw.block.addr w.raw.block.size))
-      ∙ ap (over (vec_list item mid.memory w) at) same ∙ ap (λ l. over l at zs) wide.grows.list_is
-      ∙ replaced_again xs wide.values zs at (at + length zs) (omega (arith, all, within)) (omega (arith, long, wide.many))))
+      grows_then wide.grows (becomes item _ _ w w.raw.len (replace_range xs at at zs) wide.grows.held wide.grows.held.within
+      (wrote_same mid new _ _ _ writes source) writes.frame (ap (elements size item.decoded w.raw.len) (wrote_part _ _ _ _ _ writes fits) ∙
+      elements-over size item.decoded at n w.raw.len (bytes_of mid.memory w.raw.block) bytes sized there
+      (omega (arith, room, length-bytes (image mid.memory) w.raw.block.addr w.raw.block.size)) ∙ ap (over (vec_list item mid.memory w) at)
+      same ∙ ap (λ l. over l at zs) wide.grows.list_is ∙ replaced_again xs wide.values zs at (at + length zs) (omega (arith, all, within))
+      (omega (arith, long, wide.many))))
 
 -- ---- Places that are filled
 
@@ -329,12 +328,10 @@ module _ {T I : Type 0} (item : Ghosts T) (steps : I → Option T → I → Type
   kept =
       let long = length-elements item.SIZE item.decoded v.raw.len (bytes_of old.memory v.raw.block) in
       subst (λ l. IsNow item mid.memory v l v) (take_all v.raw.len (vec_list item old.memory v) (omega (arith, long)))
-      (now_cut item old.memory mid.memory (rest.raw.block ∷ []) v v.raw.len held
-      (frame_keeps_new old.memory mid.memory (rest.raw.block ∷ []) v.raw.block alone held.place.readable) (omega arith))
+      (now_cut item _ _ _ v v.raw.len held (frame_keeps_new _ _ _ v.raw.block alone held.place.readable) (omega arith))
 
   beside : Frame old.memory mid.memory (v.raw.block ∷ []) (v.raw.block ∷ [])
-  beside = frame_weaken old.memory mid.memory [] (v.raw.block ∷ []) (rest.raw.block ∷ []) (v.raw.block ∷ []) (λ addr n some apart. tt)
-      (λ addr n some apart others. apart) alone
+  beside = frame_weaken _ _ _ _ _ _ (λ addr n some apart. tt) (λ addr n some apart others. apart) alone
 
   -- There was no room to gather all.
   pub gather_refused : {e : AllocError} → TakesSome item steps count iter old mid (new_vec item) rest e

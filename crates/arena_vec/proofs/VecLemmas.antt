@@ -34,7 +34,7 @@ pub still_held : {T : Type 0} (item : Ghosts T) (old new : View) (v : Vec T) (n 
     → SamePlaces old new
     → IsVecIn item new.memory (record { raw = record { block = v.raw.block; len = n; cap = v.raw.cap; of = v.raw.of } })
 still_held item old new v n held within same = record {
-  place = record { readable = rw same.state held.place.readable; of_size = held.place.of_size; of_align = held.place.of_align };
+  place = rw same.state held.place;
   within = within;
   no_bytes = held.no_bytes;
 }
@@ -82,12 +82,7 @@ makes {T} item old mid new room raw n list made within same frame values = recor
   made = room_then item.SIZE item.ALIGN old mid new (empty_block item.ALIGN) (empty_capacity item.SIZE) (new_growth item.SIZE room)
       (λ (r : RawVec T). r.block) (λ (v : Vec T). v.raw.block) raw _ refl made.made same;
   held = record {
-    place = record {
-      readable = rw same.state made.held.place.readable;
-      of_size = made.held.place.of_size;
-      of_align =
-          made.held.place.of_align;
-    };
+    place = rw same.state made.held.place;
     within = within;
     no_bytes = made.held.no_bytes;
   };
@@ -125,12 +120,7 @@ module _ {T X : Type 0} (item : Ghosts T) (old mid : View) (v : Vec T) (growth :
     made = room_then item.SIZE item.ALIGN old mid new v.raw.block v.raw.cap growth (λ (r : RawVec T). r.block)
         (λ _. raw.block) raw x refl made same;
     held = record {
-      place = record {
-        readable = rw same.state grown.held.place.readable;
-        of_size = grown.held.place.of_size;
-        of_align =
-            grown.held.place.of_align;
-      };
+      place = rw same.state grown.held.place;
       within = within;
       no_bytes = grown.held.no_bytes;
     };

@@ -34,5 +34,4 @@ pub returns : goal.returns
 returns g c =
     let fills = c.if-not-fill.ensures.fills in
     let all = fills.yields refl in
-    fills_on c.fill.new.iter fills.items (widen_filled c.requires.index c.in_ok-widen.ensures fills) (omega (arith, all.0)) all.1
-    c.put_rest.ensures
+    fills_on _ _ (widen_filled c.requires.index c.in_ok-widen.ensures fills) (omega (arith, all.0)) all.1 c.put_rest.ensures

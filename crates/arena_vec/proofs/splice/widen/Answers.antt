@@ -14,8 +14,7 @@ returns-in_err-raw g c =
     rw (p.1, p.2) (record {
       values = [];
       many = tt;
-      grows = refused g.T.Item c.args.a.now c.roomy.new.a c.args.vec.now _ _ c.in_err-raw.field-0.0 c.requires.held
-          c.in_err-raw.ensures.made c.in_err-raw.ensures.err;
+      grows = refused _ _ _ _ _ _ c.in_err-raw.field-0.0 c.requires.held c.in_err-raw.ensures.made c.in_err-raw.ensures.err;
     })
 
 pub returns : goal.returns

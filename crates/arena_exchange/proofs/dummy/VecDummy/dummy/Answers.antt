@@ -13,6 +13,5 @@ pub returns : goal.returns
 returns g c =
     let empty = c.new_in.ensures in
     makes_no_values g.T.Item (λ v. v.raw.block) (IsVecIn g.T.Item) (vec_list g.T.Item) (λ v. 0 < g.T.Item.SIZE → v.raw.cap ≡ v.raw.len)
-    (λ v. vector_ask g.T.Item.SIZE g.T.Item.ALIGN v.raw.len) g.T.Item.ALIGN c.args._a.now c.new_in.result
-    (empty.held c.args._a.now.memory) empty.block (empty.list c.args._a.now.memory)
-    (λ some. let none = no_room g.T.Item.SIZE some in cc (empty.cap, empty.len, none))
+    (λ v. vector_ask g.T.Item.SIZE g.T.Item.ALIGN v.raw.len) g.T.Item.ALIGN _ c.new_in.result (empty.held c.args._a.now.memory) empty.block
+    (empty.list c.args._a.now.memory) (λ some. let none = no_room g.T.Item.SIZE some in cc (empty.cap, empty.len, none))

@@ -1,47 +1,34 @@
-use Rattle.std.proofs.Common.{arith, refl, ◌+◌, ◌-◌, ◌*◌, ◌++◌, [], drop, sym, ap, subst, ◌∙◌, append-nil}
-use Rattle.std.specs.Fn.{CalledAtMut}
+use Rattle.std.proofs.Common.{ℕ, arith, refl, ◌+◌, ◌-◌, ◌*◌, ◌++◌, ◌∷◌, [], drop, sym, ap, ◌∙◌, append-nil}
 use Rattle.std_alloc.proofs.RetainMut.{Called-Mut}
 use Rattle.arena_chunks.proofs.Layers.{frame_then}
-use Rattle.arena_items.specs.Values.{elements, bytes_of}
+use Rattle.arena_items.specs.Values.{bytes_of}
 use Rattle.arena_items.proofs.Layers.{elements-empty, wrote_same, same_then}
-use Rattle.arena_vec.specs.Calling.{CallableOnListMut}
-use Rattle.arena_vec.specs.Filtering.{untested, stayed}
+use Rattle.arena_vec.specs.Filtering.{stayed}
 use Rattle.arena_vec.proofs.VecLemmas.{room_of}
-use Rattle.raw_vec.proofs.Windows.{left_first_at}
-use Rattle.arena_vec.proofs.TurnLemmas.{turn_now, turn_on}
-use Rattle.arena_vec.proofs.Walks.{behind_put}
-use Rattle.arena_vec.proofs.FilterLemmas.{IsFiltering, filtering_more, filtering_picked, filtering_end}
+use Rattle.arena_vec.proofs.Walks.{behind_put, values_next, walk_takes, walk_goes, walk_goes_put}
+use Rattle.arena_vec.proofs.FilterLemmas.{filtering_more, filtering_picked, filtering_end}
 use Rattle.arena_vec.proofs.drain_filter.DrainFilterIterator.next.Goals as goal
 
 pub pred-requires : goal.pred-requires
 pred-requires g c =
     let inv = c.loop-self.invariant in
     let d = c.loop-self.self in
-    let item = g.T.Item in
-    let got = rw inv.block at (c.item_at-item.ensures d.vec.now.raw.len (omega (arith, inv.len))) in
-    let first = left_first_at item.SIZE item.decoded d.vec.now.raw.len d.front d.vec.now.raw.len
-    (bytes_of d.arena.now.memory d.vec.now.raw.block) c.item_at-item.result (omega (arith, inv.len)) (omega arith) got in
-    turn_now first inv.filters.callable _ refl
+    let n : ℕ = d.vec.now.raw.len in
+    walk_takes g.T.Item d.arena.now d.vec.now.raw.block n d.front inv.filters.callable (omega (arith, inv.len))
+    (rw inv.block at (c.item_at-item.ensures n (omega (arith, inv.len)))) _ refl
 
 pub returns-then-pred-clause-steps : goal.returns-then-pred-clause-steps
 returns-then-pred-clause-steps g c =
     let inv = c.loop-self.invariant in
     let d = c.loop-self.self in
-    let d₀ = c.args.self.now in
-    let item = g.T.Item in
-    let R = CalledAtMut g.F.FnMut in
-    let bs = bytes_of d.arena.now.memory d.vec.now.raw.block in
-    let ys = elements item.SIZE item.decoded (d.vec.now.raw.len - (d.front + 1)) (drop ((d.front + 1) * item.SIZE) bs) in
-    let got = rw inv.block at (c.item_at-item.ensures d.vec.now.raw.len (omega (arith, inv.len))) in
+    let block = d.vec.now.raw.block in
+    let n : ℕ = d.vec.now.raw.len in
+    let got = rw inv.block at (c.item_at-item.ensures n (omega (arith, inv.len))) in
     let told = rw c.if-pred.true at (Called-Mut g.F.FnMut c.pred.ensures) in
-    let first = left_first_at item.SIZE item.decoded d.vec.now.raw.len d.front d.vec.now.raw.len bs c.item_at-item.result
-    (omega (arith, inv.len)) (omega arith) got in
-    let h = subst (λ l. IsFiltering R d₀.pred (untested item d₀) d.pred l (stayed item d₀) (stayed item d)) first inv.filtering in
     record {
-      kept = h.kept ++ [];
-      extracts = filtering_picked R d₀.pred (untested item d₀) d.pred c.pred.new.self c.item_at-item.result c.pred.new.arg2 ys
-          (stayed item d₀) (stayed item d) h told;
-      stays = h.front ∙ ap (λ l. stayed item d₀ ++ l) (sym (append-nil h.kept));
+      kept = inv.filtering.kept ++ [];
+      extracts = filtering_picked inv.filtering (values_next g.T.Item d.arena.now block n d.front _ (omega (arith, inv.len)) got) told;
+      stays = inv.filtering.front ∙ ap (λ l. stayed g.T.Item c.args.self.now ++ l) (sym (append-nil inv.filtering.kept));
       same_vec = inv.same_vec;
       same_arena = inv.same_arena;
       vec = inv.vec;
@@ -51,9 +38,8 @@ returns-then-pred-clause-steps g c =
         small = inv.filters.small;
         held = inv.filters.held;
         order = omega (arith, inv.filters.order);
-        within =
-            omega (arith, inv.len);
-        callable = turn_on first inv.filters.callable _ (_, _, told);
+        within = omega (arith, inv.len);
+        callable = walk_goes g.T.Item d.arena.now block n d.front inv.filters.callable (omega (arith, inv.len)) got _ (_, _, told);
       };
     }
 
@@ -68,48 +54,30 @@ pub loop-self-preserved : goal.loop-self-preserved
 loop-self-preserved g c =
     let inv = c.loop-self.invariant in
     let d = c.loop-self.self in
-    let d₀ = c.args.self.now in
     let item = g.T.Item in
-    let R = CalledAtMut g.F.FnMut in
-    let bs = bytes_of d.arena.now.memory d.vec.now.raw.block in
-    let news = bytes_of c.put_item.new.a.memory d.vec.now.raw.block in
-    let ys = elements item.SIZE item.decoded (d.vec.now.raw.len - (d.front + 1)) (drop ((d.front + 1) * item.SIZE) bs) in
-    let got = rw inv.block at (c.item_at-item.ensures d.vec.now.raw.len (omega (arith, inv.len))) in
+    let block = d.vec.now.raw.block in
+    let n : ℕ = d.vec.now.raw.len in
+    let held = inv.filters.held in
+    let got = rw inv.block at (c.item_at-item.ensures n (omega (arith, inv.len))) in
     let told = rw c.if-pred.false at (Called-Mut g.F.FnMut c.pred.ensures) in
-    let first = left_first_at item.SIZE item.decoded d.vec.now.raw.len d.front d.vec.now.raw.len bs c.item_at-item.result
-    (omega (arith, inv.len)) (omega arith) got in
-    let h = subst (λ l. IsFiltering R d₀.pred (untested item d₀) d.pred l (stayed item d₀) (stayed item d)) first inv.filtering in
-    let room = room_of item d.arena.now.memory d.vec.now d.vec.now.raw.len inv.filters.held inv.filters.held.within in
+    let first = values_next item d.arena.now block n d.front c.item_at-item.result (omega (arith, inv.len)) got in
     let puts = rw inv.block at c.put_item.ensures in
-    let behind = behind_put item.SIZE item.decoded d.vec.now.raw.len d.kept (d.front + 1) bs news c.pred.new.arg2
-    (omega (arith, inv.filters.order)) (omega (arith, inv.len))
-    (puts.set d.vec.now.raw.len (omega (arith, inv.filters.order, inv.len)) room) in
+    let set = puts.set n (omega (arith, inv.filters.order, inv.len)) (room_of item d.arena.now.memory d.vec.now n held held.within) in
+    let behind = behind_put item.SIZE item.decoded n d.kept (d.front + 1) _ _ c.pred.new.arg2 (omega (arith, inv.filters.order))
+    (omega (arith, inv.len)) set in
     record {
       filters = record {
         small = inv.filters.small;
-        held = record {
-          place = record {
-            readable = rw puts.writes.state inv.filters.held.place.readable;
-            of_size =
-                inv.filters.held.place.of_size;
-            of_align = inv.filters.held.place.of_align;
-          };
-          within = inv.filters.held.within;
-          no_bytes =
-              inv.filters.held.no_bytes;
-        };
+        held = record { place = rw puts.writes.state held.place; within = held.within; no_bytes = held.no_bytes };
         order = omega (arith, inv.filters.order);
         within = omega (arith, inv.len);
-        callable = subst (λ l. CallableOnListMut g.F.FnMut l c.pred.new.self) (sym behind)
-            (turn_on first inv.filters.callable _ (_, _, told));
+        callable = walk_goes_put item d.arena.now block n d.front inv.filters.callable (omega (arith, inv.len)) got c.put_item.new.a d.kept
+            c.pred.new.arg2 _ (_, _, told) inv.filters.order set;
       };
       len = inv.len;
       block = inv.block;
       vec = inv.vec;
-      filtering = subst (λ l. IsFiltering R d₀.pred (untested item d₀) c.pred.new.self l (stayed item d₀)
-          (elements item.SIZE item.decoded (d.kept + 1) news)) (sym behind)
-          (filtering_more R d₀.pred (untested item d₀) d.pred c.pred.new.self c.item_at-item.result c.pred.new.arg2 ys (stayed item d₀)
-          (stayed item d) (elements item.SIZE item.decoded (d.kept + 1) news) h told puts.push);
+      filtering = filtering_more inv.filtering (first ∙ ap (λ l. c.item_at-item.result ∷ l) (sym behind)) told puts.push;
       from = omega (arith, inv.from);
       same_vec = inv.same_vec;
       same_arena = inv.same_arena;
@@ -121,16 +89,12 @@ pub returns-clause-steps : goal.returns-clause-steps
 returns-clause-steps g c =
     let inv = c.loop-self.invariant in
     let d = c.loop-self.self in
-    let d₀ = c.args.self.now in
-    let item = g.T.Item in
-    let R = CalledAtMut g.F.FnMut in
-    let none = elements-empty item.SIZE item.decoded (d.vec.now.raw.len - d.front)
-    (drop (d.front * item.SIZE) (bytes_of d.arena.now.memory d.vec.now.raw.block)) (omega (arith, inv.len)) in
-    let h = subst (λ l. IsFiltering R d₀.pred (untested item d₀) d.pred l (stayed item d₀) (stayed item d)) none inv.filtering in
+    let none = elements-empty g.T.Item.SIZE g.T.Item.decoded (d.vec.now.raw.len - d.front)
+    (drop (d.front * g.T.Item.SIZE) (bytes_of d.arena.now.memory d.vec.now.raw.block)) (omega (arith, inv.len)) in
     record {
-      kept = h.kept ++ [];
-      extracts = rw none (filtering_end R d₀.pred (untested item d₀) d.pred (stayed item d₀) (stayed item d) h);
-      stays = h.front ∙ ap (λ l. stayed item d₀ ++ l) (sym (append-nil h.kept));
+      kept = inv.filtering.kept ++ [];
+      extracts = rw none (filtering_end inv.filtering none);
+      stays = inv.filtering.front ∙ ap (λ l. stayed g.T.Item c.args.self.now ++ l) (sym (append-nil inv.filtering.kept));
       same_vec = inv.same_vec;
       same_arena = inv.same_arena;
       vec = inv.vec;

@@ -29,6 +29,5 @@ pub returns-clause-other : goal.returns-clause-other
 returns-clause-other g c =
     let other = c.args.other.now in
     let frame = frame_then _ _ _ _ _ _ c.in_ok-raw.ensures.grown.frame c.copy_items.ensures.writes.frame in
-    now_cut g.T.Item c.args.a.now.memory c.copy_items.new.a.memory _ other 0 c.requires.other
-    (frame_keeps_beside _ _ c.args.self.now.raw.block _ other.raw.block frame c.requires.other.place.readable c.requires.apart)
-    (omega arith)
+    now_cut _ _ _ _ _ 0 c.requires.other (frame_keeps_beside _ _ c.args.self.now.raw.block _ other.raw.block frame
+    c.requires.other.place.readable c.requires.apart) (omega arith)

@@ -17,5 +17,4 @@ loop-i-preserved g c =
 
 pub returns : goal.returns
 returns g c =
-    all_equal _ _ g.T.PartialEq.eq c.loop-i.i (length-elements _ _ _ _ ∙ omega arith) (length-elements _ _ _ _ ∙ omega arith)
-    c.loop-i.invariant
+    all_equal _ _ g.T.PartialEq.eq _ (length-elements _ _ _ _ ∙ omega arith) (length-elements _ _ _ _ ∙ omega arith) c.loop-i.invariant

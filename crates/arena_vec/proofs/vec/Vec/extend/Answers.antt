@@ -14,7 +14,6 @@ loop-value-preserved g c = record {
 pub returns-in_err-push_hinted-clause-err : goal.returns-in_err-push_hinted-clause-err
 returns-in_err-push_hinted-clause-err g c =
     let p = err_from_is_err_and c.from_residual.result c.from_residual.ensures.1 in
-    rw (p.1, p.2) (extending_refused g.T.Item g.I.Iterator.next_gives g.I.Iterator.remaining _ _ _ _ _ _ _ _ _ c.in-Some.value
-    c.hint_of-hint.result
-    c.in_err-push_hinted.field-0.0 c.loop-value.invariant.extending c.in-Some.ensures.steps c.hint_of-hint.ensures
+    rw (p.1, p.2) (extending_refused _ g.I.Iterator.next_gives g.I.Iterator.remaining _ _ _ _ _ _ _ _ _ c.in-Some.value
+    c.hint_of-hint.result c.in_err-push_hinted.field-0.0 c.loop-value.invariant.extending c.in-Some.ensures.steps c.hint_of-hint.ensures
     c.in_err-push_hinted.ensures)

@@ -15,7 +15,6 @@ returns g c =
     let raw = c.in_ok-raw.raw in
     let put = c.put_items.ensures in
     let grown = c.in_ok-raw.ensures.grown in
-    grows g.T.Item c.args.a.now c.roomy.new.a c.args.self.now _ c.put_items.new.a raw
-    (raw.len + length c.args.other.now) _ tt c.in_ok-raw.ensures.made grown
+    grows _ _ _ _ _ _ _ (raw.len + length c.args.other.now) _ tt c.in_ok-raw.ensures.made grown
     (omega (arith, grown.len, c.in_ok-raw.ensures.enough)) (wrote_same _ _ _ _ _ put.writes put.source) put.writes.frame
-    (put.push ∙ ap (λ xs. xs ++ c.args.other.now) (same_list g.T.Item _ _ c.args.self.now _ raw c.requires.held grown))
+    (put.push ∙ ap (λ xs. xs ++ c.args.other.now) (same_list _ _ _ c.args.self.now _ _ c.requires.held grown))

@@ -22,7 +22,6 @@ returns g c =
     let put = c.put_all.ensures in
     let n : c.count_all-n.result ≡ length more = omega (arith, c.count_all-n.ensures, c.in_ok-raw.ensures.enough) in
     let grown = rw n at c.in_ok-raw.ensures.grown in
-    rw n (grows g.T.Item c.args.a.now c.roomy.new.a v _ c.put_all.new.a raw (raw.len + length more) _ tt
-    (rw n at c.in_ok-raw.ensures.made) grown
+    rw n (grows _ c.args.a.now _ v _ _ _ (raw.len + length more) _ tt (rw n at c.in_ok-raw.ensures.made) grown
     (omega (arith, grown.len, n, c.in_ok-raw.ensures.enough)) put.places put.frame
-    (put.push ∙ ap (λ xs. xs ++ more) (same_list g.T.Item _ _ v _ raw c.requires.held grown)))
+    (put.push ∙ ap (λ xs. xs ++ more) (same_list _ _ _ v _ _ c.requires.held grown)))

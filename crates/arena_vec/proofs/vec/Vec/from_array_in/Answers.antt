@@ -13,7 +13,5 @@ pub returns : goal.returns
 returns g c =
     let put = c.put_items.ensures in
     let made = c.in_ok-raw.ensures in
-    makes g.T.Item c.args.a.now c.with_capacity_in.new.a c.put_items.new.a (length c.args.array) c.in_ok-raw.raw
-    (length c.args.array) c.args.array
-    made made.enough (wrote_same _ _ _ _ _ put.writes put.source) put.writes.frame
+    makes _ _ _ _ _ c.in_ok-raw.raw (length c.args.array) _ made made.enough (wrote_same _ _ _ _ _ put.writes put.source) put.writes.frame
     (elements-all g.T.Item.SIZE g.T.Item.decoded (length c.args.array) _ _ c.args.array put.push)

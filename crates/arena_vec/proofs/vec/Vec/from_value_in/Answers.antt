@@ -12,6 +12,5 @@ pub returns : goal.returns
 returns g c =
     let put = c.put_item.ensures in
     let made = c.in_ok-raw.ensures in
-    makes g.T.Item c.args.a.now c.with_capacity_in.new.a c.put_item.new.a 1 c.in_ok-raw.raw 1 (c.args.value ∷ []) made made.enough
-    (wrote_same _ _ _ _ _ put.writes put.source) put.writes.frame
+    makes _ _ _ _ _ c.in_ok-raw.raw 1 _ made made.enough (wrote_same _ _ _ _ _ put.writes put.source) put.writes.frame
     (elements-all g.T.Item.SIZE g.T.Item.decoded 1 _ _ (c.args.value ∷ []) put.push)

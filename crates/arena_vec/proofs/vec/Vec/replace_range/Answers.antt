@@ -35,5 +35,4 @@ pub returns : goal.returns
 returns g c =
     let fills = c.if-not-fill.ensures.fills in
     let all = fills.yields refl in
-    spliced c.requires.order (omega arith) (fills_on c.fill.new.iter fills.items (grows_nothing fills.becomes) all.0 all.1
-    c.put_more.ensures)
+    spliced c.requires.order (omega arith) (fills_on _ _ (grows_nothing fills.becomes) all.0 all.1 c.put_more.ensures)

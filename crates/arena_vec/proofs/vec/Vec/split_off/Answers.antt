@@ -18,13 +18,11 @@ returns-clause-makes g c =
     let put = c.copy_items.ensures in
     let made = c.in_ok-raw.ensures in
     let kept = frame_keeps_new _ _ _ v.raw.block made.frame c.requires.held.place.readable in
-    makes g.T.Item c.args.a.now c.with_capacity_in.new.a c.copy_items.new.a n c.in_ok-raw.raw n _ made made.enough
-    (wrote_same _ _ _ _ _ put.writes put.source) put.writes.frame
+    makes _ _ _ _ _ c.in_ok-raw.raw n _ made made.enough (wrote_same _ _ _ _ _ put.writes put.source) put.writes.frame
     (split g.T.Item.SIZE g.T.Item.decoded c.args.at v.raw.len _ _ _ _ c.requires.index kept.bytes put.push)
 
 pub returns-clause-first : goal.returns-clause-first
 returns-clause-first g c =
     let v = c.args.self.now in
     let frame = frame_then _ _ _ [] (c.in_ok-raw.raw.block ∷ []) _ c.in_ok-raw.ensures.frame c.copy_items.ensures.writes.frame in
-    now_cut g.T.Item c.args.a.now.memory c.copy_items.new.a.memory _ v c.args.at c.requires.held
-    (frame_keeps_new _ _ _ v.raw.block frame c.requires.held.place.readable) c.requires.index
+    now_cut _ _ _ _ _ c.args.at c.requires.held (frame_keeps_new _ _ _ v.raw.block frame c.requires.held.place.readable) c.requires.index

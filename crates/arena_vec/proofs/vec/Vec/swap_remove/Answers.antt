@@ -15,9 +15,6 @@ returns-clause-becomes g c =
     let xs = vec_list g.T.Item c.args.a.now.memory v in
     let last = get_or_from_slice_get xs (n - 1) _ c.get-value.result c.get-last.ensures in
     rw (length-elements g.T.Item.SIZE g.T.Item.decoded n (bytes_of c.args.a.now.memory v.raw.block))
-    (becomes g.T.Item c.args.a.now c.put_item.new.a v (n - 1) _ held (omega (arith, held.within))
-    (wrote_same _ _ _ _ _ put.writes put.source)
-    put.writes.frame
-    (elements-cut g.T.Item.SIZE g.T.Item.decoded (n - 1) n (bytes_of c.put_item.new.a.memory v.raw.block) (omega arith)
-    ∙ ap (take (n - 1)) (put.set n c.requires.index (room_of g.T.Item c.args.a.now.memory v n held held.within)
-    ∙ ap (set xs c.args.i) (sym last))))
+    (becomes g.T.Item _ _ v (n - 1) _ held (omega (arith, held.within)) (wrote_same _ _ _ _ _ put.writes put.source) put.writes.frame
+    (elements-cut g.T.Item.SIZE g.T.Item.decoded (n - 1) n (bytes_of c.put_item.new.a.memory v.raw.block) (omega arith) ∙ ap (take (n - 1))
+    (put.set n c.requires.index (room_of g.T.Item c.args.a.now.memory v n held held.within) ∙ ap (set xs c.args.i) (sym last))))
