@@ -54,21 +54,20 @@ module _ {there : Memory → Memory} {is_beside : Block → List Block → Type 
   builder_made {new} writes kept =
       let list = bytes_from (image (there mid.memory)) t.block.addr t.len in
       let long = length-bytes (image (there mid.memory)) t.block.addr t.len in
-      let place = written_held mid.memory new.memory made.cap 1 0 made.block made.block list writes makes.held.place in
+      let place = written_held _ _ _ _ _ _ _ _ writes makes.held.place in
       let size : made.block.size ≡ t.len = makes.held.place.of_size ∙ makes.cap in
       let front = take_bytes (image (there mid.memory)) t.block.addr t.block.size t.len
       (omega (arith, held.within, held.place.of_size)) in
       record {
         blocks = made.block ∷ [];
         placed = record {
-          asked = asked_same (text_ask t.len ∷ []) old mid new (made.block ∷ []) (room_asked t (Ok made) makes)
-              (wrote_same mid new made.block 0 list writes kept);
+          asked = asked_same (text_ask t.len ∷ []) old _ _ (made.block ∷ []) (room_asked t _ makes) (wrote_same mid new _ _ _ writes kept);
           apart = (tt, tt);
-          frame = frame_then old.memory mid.memory new.memory [] (made.block ∷ []) (made.block ∷ []) makes.frame writes.frame;
+          frame = frame_then _ _ _ _ _ _ makes.frame writes.frame;
         };
         made = record {
           held = record { place = place; within = omega arith };
-          means = ap (take made.cap) (wrote_whole mid.memory new.memory made.block list writes (long ∙ sym size))
+          means = ap (take made.cap) (wrote_whole _ _ _ _ writes (long ∙ sym size))
               ∙ take_all made.cap list (omega (arith, long, makes.cap)) ∙ sym front ∙ ap (take t.len) (sym block_kept.bytes);
           trim = refl;
           deep = IsPermutation-refl (made.block ∷ []);

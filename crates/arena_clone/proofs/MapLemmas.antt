@@ -87,12 +87,11 @@ copy_fits : {K V S : Type 0} (k : MapTypes K V S) {source new : Memory} {old mid
     → IsTableFor w.len w.table.slots
 copy_fits k {e} {w} {n} places holds count =
     let bytes : w.table.block.size ≡ e.table.block.size = ap (λ b. b.size) holds.block in
-    let same : w.table.slots ≡ e.table.slots = same_slots w.table.slots e.table.slots (k.keys.SIZE + k.values.SIZE)
+    let same : w.table.slots ≡ e.table.slots = same_slots _ _ (k.keys.SIZE + k.values.SIZE)
     (sym holds.held.handle.place.of_size ∙ bytes ∙ places.held.handle.place.of_size) in
     let len : w.len ≡ n = holds.len ∙ sym count in
     rw (same, len) (
-      (λ none. no_slots e.table.slots (k.keys.SIZE + k.values.SIZE)
-          (sym places.held.handle.place.of_size ∙ (places.none none).1.block)),
+      (λ none. no_slots _ (k.keys.SIZE + k.values.SIZE) (sym places.held.handle.place.of_size ∙ (places.none none).1.block)),
       places.slots,
     )
 
@@ -151,13 +150,12 @@ module _ {K V S : Type 0} (k : MapTypes K V S) (is_default : S → Type 0) (keys
         → PlacesAll (table_ask k h.len ∷ (row_of (pair_of keys values)).asks source (pairs_in k source h)) old new
         (e.table.block ∷ puts.row.blocks) (refusal r)
     map_placed r puts =
-        let own = table_placed k old mid h.len (Ok e) few places in
+        let own = table_placed _ _ _ _ _ few places in
         record {
           asked = asked_then (table_ask k h.len ∷ []) ((row_of (pair_of keys values)).asks source (pairs_in k source h)) old mid new
               (e.table.block ∷ []) puts.row.blocks (refusal r) own.asked puts.row.asked;
           apart = puts.row.apart;
-          frame = frame_then old.memory mid.memory new.memory [] (e.table.block ∷ []) (e.table.block ∷ puts.row.blocks) own.frame
-              puts.row.frame;
+          frame = frame_then _ _ _ _ _ _ own.frame puts.row.frame;
         }
 
     -- or a pair,

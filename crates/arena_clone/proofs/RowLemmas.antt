@@ -78,8 +78,7 @@ module _ {T X : Type 0} {kind : Kind T} (is : IsLawful kind) {ids : CloneInSeman
 
     both_frame : Frame old.memory between.memory (target ∷ []) (target ∷ row.blocks ++ copy.blocks)
     both_frame =
-        frame_then old.memory mid.memory between.memory (target ∷ []) (target ∷ row.blocks) (target ∷ row.blocks ++ copy.blocks) row.frame
-        (frame_weaken mid.memory between.memory [] (target ∷ row.blocks) copy.blocks (target ∷ row.blocks ++ copy.blocks)
+        frame_then _ _ _ _ _ _ row.frame (frame_weaken _ _ _ (target ∷ row.blocks) _ (target ∷ row.blocks ++ copy.blocks)
         (λ addr n some apart. tt) (λ addr n some apart rest. apart_both addr n (target ∷ row.blocks) copy.blocks apart rest)
         copy.placed.frame)
 
@@ -126,13 +125,12 @@ module _ {T X : Type 0} {kind : Kind T} (is : IsLawful kind) {ids : CloneInSeman
         record {
           blocks = bs;
           asked = rw (← flat_map_more (kind.asks source) [] xs x)
-              (asked_same _ old between new bs (asked_then _ (kind.asks source x) old mid between row.blocks copy.blocks None row.asked
+              (asked_same _ old _ _ bs (asked_then _ (kind.asks source x) old mid between row.blocks copy.blocks None row.asked
               copy.placed.asked) places);
           apart = both_apart copy;
-          frame = frame_then old.memory between.memory new.memory (target ∷ []) (target ∷ bs) (target ∷ bs) (both_frame copy)
-              (frame_beside between.memory new.memory (target ∷ []) (target ∷ []) bs frame);
+          frame = frame_then _ _ _ _ _ _ (both_frame copy) (frame_beside _ _ _ _ bs frame);
           readable = readable;
-          made = made_stays (row_lawful kind is) frame made_between apart_between;
+          made = made_stays (row_lawful _ is) frame made_between apart_between;
         }
 
 -- ---- Copies into a block

@@ -9,8 +9,7 @@ loop-slot-init g c = puts_none c.requires.empty
 
 pub pair_at-requires-clause-handle : goal.pair_at-requires-clause-handle
 pair_at-requires-clause-handle g c =
-    rw c.arena.ensures (handle_kept (g.met.O.Origin.is_origin c.args.from.now) c.args.map.now c.loop-slot.invariant c.requires.held
-    c.requires.beside)
+    rw c.arena.ensures (handle_kept (g.met.O.Origin.is_origin c.args.from.now) _ c.loop-slot.invariant c.requires.held c.requires.beside)
 
 pub loop-slot-preserved-in_default : goal.loop-slot-preserved-in_default
 loop-slot-preserved-in_default g c =

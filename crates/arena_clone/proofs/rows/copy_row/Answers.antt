@@ -17,10 +17,9 @@ returns-then-is_flat g c =
     let m = g.O.Origin.there c.args.from.now c.args.to.now.memory in
     let writes = rw c.SIZE.ensures at c.copy_front.ensures.writes in
     let flat = g.met.T.CloneIn.lawful.flat c.args.ids (sym c.is_flat.ensures ∙ c.if-is_flat.true) in
-    row_written g.T.CloneIn.kind c.args.ids flat m c.args.to.now c.copy_front.new.to c.args.row.target 0 _ _ _ tt writes
-    c.copy_front.ensures.source c.requires.target
-    (front_written g.T.Item.decoded m c.args.to.now.memory c.copy_front.new.to.memory c.args.row.source c.args.row.target
-    g.T.Item.SIZE c.args.row.count c.requires.source_room c.requires.target_room writes)
+    row_written _ _ flat _ _ _ _ _ _ _ _ tt writes c.copy_front.ensures.source c.requires.target
+    (front_written g.T.Item.decoded m _ _ c.args.row.source _ g.T.Item.SIZE c.args.row.count c.requires.source_room c.requires.target_room
+    writes)
 
 pub copy_of-requires-clause-held : goal.copy_of-requires-clause-held
 copy_of-requires-clause-held g c =

@@ -1,6 +1,5 @@
 use Rattle.std.proofs.Common.{sym}
 use Rattle.std.proofs.lemmas.Result.{err_from_is_err_and}
-use Rattle.arena_hash.specs.Contents.{kind}
 use Rattle.arena_clone.proofs.LayoutLemmas.{readable_layout}
 use Rattle.arena_clone.proofs.TableLemmas.{table_is_align, table_copy_refused, table_copied}
 use Rattle.arena_clone.proofs.tables.copy_table.Goals as goal
@@ -8,32 +7,23 @@ use Rattle.arena_clone.proofs.tables.copy_table.Goals as goal
 pub place_copy-requires-clause-fits : goal.place_copy-requires-clause-fits
 place_copy-requires-clause-fits g c =
     let place = c.requires.held.0.handle.place in
-    let align = table_is_align g.K.Item.SIZE g.V.Item.SIZE g.K.Item.ALIGN g.V.Item.ALIGN g.met.K.Item.layout g.met.V.Item.layout in
+    let align = table_is_align _ _ _ _ g.met.K.Item.layout g.met.V.Item.layout in
     rw place.of_align
-    (readable_layout c.arena.result.now.memory.state c.args.map.now.table.block _ c.known.ensures.valid align
-    (rw c.arena.ensures place.readable))
+    (readable_layout _ c.args.map.now.table.block _ c.known.ensures.valid align (rw c.arena.ensures place.readable))
 
 pub returns-in_err-block : goal.returns-in_err-block
 returns-in_err-block g c =
     let p = err_from_is_err_and c.from_residual.result c.from_residual.ensures.1 in
     let place = c.requires.held.0.handle.place in
     rw (p.1, p.2) (λ ids flat other.
-    table_copy_refused (kind g.K.Item g.K.ArenaKey.key g.V.Item g.S.KeyHasher.hash_of) g.S.Default.is_default
-    g.K.CloneIn.kind g.V.CloneIn.kind
-    g.met.K.CloneKey.keeps ids (g.met.K.CloneIn.lawful.flat ids flat) (g.met.V.CloneIn.lawful.flat ids other)
-    c.requires.fixed
-    (g.O.Origin.there c.args.from.now c.args.to.now.memory) c.args.to.now c.place_copy.new.to c.args.map.now c.requires.full
-    c.requires.held.0 _
+    table_copy_refused _ g.S.Default.is_default _ _ g.met.K.CloneKey.keeps _ (g.met.K.CloneIn.lawful.flat ids flat)
+    (g.met.V.CloneIn.lawful.flat ids other) c.requires.fixed _ c.args.to.now c.place_copy.new.to _ c.requires.full c.requires.held.0 _
     (rw (place.of_size, place.of_align) at c.in_err-block.ensures.placed))
 
 pub returns : goal.returns
 returns g c ids flat other =
     let place = c.requires.held.0.handle.place in
-    table_copied (kind g.K.Item g.K.ArenaKey.key g.V.Item g.S.KeyHasher.hash_of) g.S.Default.is_default
-    g.K.CloneIn.kind g.V.CloneIn.kind
-    g.met.K.CloneKey.keeps ids (g.met.K.CloneIn.lawful.flat ids flat) (g.met.V.CloneIn.lawful.flat ids other)
-    c.requires.fixed
-    (g.O.Origin.there c.args.from.now c.args.to.now.memory) c.args.to.now c.place_copy.new.to c.args.map.now c.requires.full
-    c.requires.held.0
+    table_copied _ g.S.Default.is_default _ _ g.met.K.CloneKey.keeps _ (g.met.K.CloneIn.lawful.flat ids flat)
+    (g.met.V.CloneIn.lawful.flat ids other) c.requires.fixed _ c.args.to.now c.place_copy.new.to _ c.requires.full c.requires.held.0
     c.in_ok-block.block c.default.result c.default.ensures (rw (place.of_size, place.of_align) at c.in_ok-block.ensures.placed)
     (sym c.in_ok-block.ensures.bytes)

@@ -9,9 +9,8 @@ use Rattle.arena_clone.proofs.maps.HashMapCloneIn.copy_of.Goals as goal
 pub returns-in_err-empty : goal.returns-in_err-empty
 returns-in_err-empty g c =
     let p = err_from_is_err_and c.from_residual.result c.from_residual.ensures.1 in
-    rw (p.1, p.2) (map_refused (kind g.K.Item g.K.ArenaKey.key g.V.Item g.S.KeyHasher.hash_of) g.S.Default.is_default
-    g.K.CloneIn.kind g.V.CloneIn.kind
-    c.args.ids (g.O.Origin.there c.args.from.now c.args.to.now.memory) c.args.self.now (omega (arith, c.requires.held.0.within))
+    rw (p.1, p.2) (map_refused _ g.S.Default.is_default g.K.CloneIn.kind g.V.CloneIn.kind c.args.ids
+    (g.O.Origin.there c.args.from.now c.args.to.now.memory) c.args.self.now (omega (arith, c.requires.held.0.within))
     c.in_err-empty.ensures.placed)
 
 pub put_pairs-requires-clause-held : goal.put_pairs-requires-clause-held
@@ -35,23 +34,19 @@ put_pairs-requires-clause-beside g c =
 pub returns-in_err-copy : goal.returns-in_err-copy
 returns-in_err-copy g c =
     let p = err_from_is_err_and c.from_residual-in_err-copy.result c.from_residual-in_err-copy.ensures.1 in
-    let law = map_lawful (kind g.K.Item g.K.ArenaKey.key g.V.Item g.S.KeyHasher.hash_of) g.K.CloneIn.kind g.V.CloneIn.kind
-    g.met.K.CloneKey.keeps g.met.K.CloneIn.lawful g.met.V.CloneIn.lawful g.S.Default.is_default in
+    let law = map_lawful (kind g.K.Item g.K.ArenaKey.key g.V.Item g.S.KeyHasher.hash_of) _ _ g.met.K.CloneKey.keeps g.met.K.CloneIn.lawful
+    g.met.V.CloneIn.lawful g.S.Default.is_default in
     rw (p.1, p.2) (placed_copied (g.met.O.Origin.is_origin c.args.from.now) c.in_ok-empty.ensures.placed.frame law c.args.self.now
     c.requires.held
-    (map_pair_refused (kind g.K.Item g.K.ArenaKey.key g.V.Item g.S.KeyHasher.hash_of) g.S.Default.is_default
-    g.K.CloneIn.kind g.V.CloneIn.kind c.args.ids
-    (g.O.Origin.there c.args.from.now c.with_capacity_in.new.a.memory) c.args.self.now
-    (omega (arith, c.requires.held.0.within)) c.in_ok-empty.ensures.placed c.in_err-copy.ensures))
+    (map_pair_refused _ g.S.Default.is_default _ _ _ _ c.args.self.now (omega (arith, c.requires.held.0.within))
+    c.in_ok-empty.ensures.placed c.in_err-copy.ensures))
 
 pub returns : goal.returns
 returns g c =
-    let law = map_lawful (kind g.K.Item g.K.ArenaKey.key g.V.Item g.S.KeyHasher.hash_of) g.K.CloneIn.kind g.V.CloneIn.kind
-    g.met.K.CloneKey.keeps g.met.K.CloneIn.lawful g.met.V.CloneIn.lawful g.S.Default.is_default in
+    let law = map_lawful (kind g.K.Item g.K.ArenaKey.key g.V.Item g.S.KeyHasher.hash_of) _ _ g.met.K.CloneKey.keeps g.met.K.CloneIn.lawful
+    g.met.V.CloneIn.lawful g.S.Default.is_default in
     let held = placed_held (g.met.O.Origin.is_origin c.args.from.now) c.in_ok-empty.ensures.placed.frame law c.args.self.now
     c.requires.held in
     placed_copied (g.met.O.Origin.is_origin c.args.from.now) c.in_ok-empty.ensures.placed.frame law c.args.self.now c.requires.held
-    (map_made (kind g.K.Item g.K.ArenaKey.key g.V.Item g.S.KeyHasher.hash_of) g.S.Default.is_default
-    g.K.CloneIn.kind g.V.CloneIn.kind c.args.ids
-    (g.O.Origin.there c.args.from.now c.with_capacity_in.new.a.memory) c.args.self.now
-    (omega (arith, c.requires.held.0.within)) c.in_ok-empty.ensures.placed held.0 c.in_ok-empty.ensures.hasher c.in_ok-copy.ensures)
+    (map_made _ g.S.Default.is_default _ _ _ _ _ (omega (arith, c.requires.held.0.within)) c.in_ok-empty.ensures.placed held.0
+    c.in_ok-empty.ensures.hasher c.in_ok-copy.ensures)

@@ -8,8 +8,7 @@ use Rattle.arena_clone.proofs.sets.BitSetCloneIn.copy_of.Goals as goal
 
 pub place_copy-requires-clause-fits : goal.place_copy-requires-clause-fits
 place_copy-requires-clause-fits g c =
-    readable_layout c.arena.result.now.memory.state c.args.self.now.words.block 8 c.known.ensures.valid eight
-    (rw c.arena.ensures c.requires.held.place.readable)
+    readable_layout _ c.args.self.now.words.block 8 c.known.ensures.valid eight (rw c.arena.ensures c.requires.held.place.readable)
 
 pub returns-in_err-block : goal.returns-in_err-block
 returns-in_err-block g c =

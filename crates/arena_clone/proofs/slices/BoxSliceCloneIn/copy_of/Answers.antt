@@ -7,8 +7,7 @@ use Rattle.arena_clone.proofs.slices.BoxSliceCloneIn.copy_of.Goals as goal
 
 pub overflow_mul-self : goal.overflow_mul-self
 overflow_mul-self g c =
-    let few = readable_size c.arena.result.now.memory.state c.args.self.now.block c.known.ensures.valid
-    (rw c.arena.ensures c.requires.held.0.readable) in
+    let few = readable_size _ c.args.self.now.block c.known.ensures.valid (rw c.arena.ensures c.requires.held.0.readable) in
     rw (c.SIZE.ensures) (omega (arith, few, c.requires.held.0.of_size))
 
 pub place-requires : goal.place-requires
@@ -45,8 +44,7 @@ pub returns-in_err-copy_row : goal.returns-in_err-copy_row
 returns-in_err-copy_row g c =
     let placed = rw (c.SIZE.ensures, c.ALIGN.ensures) at c.in_ok-target.ensures in
     let p = err_from_is_err_and c.from_residual-in_err-copy_row.result c.from_residual-in_err-copy_row.ensures.1 in
-    rw (p.1, p.2) (slice_value_refused g.T.Item g.T.CloneIn.kind c.args.ids (g.O.Origin.there c.args.from.now c.args.to.now.memory)
-    c.args.self.now placed
+    rw (p.1, p.2) (slice_value_refused g.T.Item _ _ _ c.args.self.now placed
     (row_before (g.met.O.Origin.is_origin c.args.from.now) g.T.Item g.met.T.CloneIn.lawful c.args.self.now.block c.args.self.now.length
     placed.1.outcome.frame c.requires.held.0.readable c.requires.held.1 c.in_err-copy_row.ensures))
 

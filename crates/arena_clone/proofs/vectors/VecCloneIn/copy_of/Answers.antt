@@ -28,14 +28,12 @@ copy_row-requires-clause-beside g c =
 pub returns-in_err-copy_row : goal.returns-in_err-copy_row
 returns-in_err-copy_row g c =
     let p = err_from_is_err_and c.from_residual-in_err-copy_row.result c.from_residual-in_err-copy_row.ensures.1 in
-    rw (p.1, p.2) (vec_value_refused g.T.Item g.T.CloneIn.kind c.args.ids (g.O.Origin.there c.args.from.now c.args.to.now.memory)
-    c.args.self.now c.in_ok-copy.ensures
+    rw (p.1, p.2) (vec_value_refused _ _ _ _ c.args.self.now c.in_ok-copy.ensures
     (row_before (g.met.O.Origin.is_origin c.args.from.now) g.T.Item g.met.T.CloneIn.lawful c.args.self.now.raw.block c.args.self.now.raw.len
     c.in_ok-copy.ensures.frame c.requires.held.0.place.readable c.requires.held.1 c.in_err-copy_row.ensures))
 
 pub returns : goal.returns
 returns g c =
-    vec_made g.T.Item g.T.CloneIn.kind c.args.ids (g.O.Origin.there c.args.from.now c.args.to.now.memory) c.args.self.now c.in_ok-copy.ensures
-    refl refl refl
+    vec_made _ _ _ _ c.args.self.now c.in_ok-copy.ensures refl refl refl
     (row_before (g.met.O.Origin.is_origin c.args.from.now) g.T.Item g.met.T.CloneIn.lawful c.args.self.now.raw.block c.args.self.now.raw.len
     c.in_ok-copy.ensures.frame c.requires.held.0.place.readable c.requires.held.1 c.in_ok-copy_row.ensures)
