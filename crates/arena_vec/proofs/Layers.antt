@@ -12,7 +12,7 @@ use Rattle.arena_items.specs.declared.room.AllocError.{AllocError}
 use Rattle.arena_vec.specs.declared.drain.Drain.{Drain}
 use Rattle.arena_vec.specs.declared.vec.Vec.{Vec}
 pub use Rattle.arena_items.proofs.Layers.{length-elements, same_then, room_then, room_refused}
-pub use Rattle.raw_vec.proofs.Windows.{window-whole, window_start, first_left}
+pub use Rattle.raw_vec.proofs.Windows.{window-whole, first_left}
 
 -- ---- If there is room
 
