@@ -1,9 +1,8 @@
 -- What a new arena is.
-use Rattle.std.proofs.Common.{◌≡◌, ℕ, zero, suc, ◌+◌, ◌-◌, ◌%◌, ◌^◌, ◌<◌, ◌≤◌, refl, subst, arith, IsTrue, Bool, true, false, Option, Some, None}
-use Rattle.std.specs.Prelude.{◌==◌, if◌then◌else◌}
+use Rattle.std.proofs.Common.{◌≡◌, ℕ, zero, suc, ◌+◌, ◌-◌, ◌%◌, ◌^◌, ◌<◌, ◌≤◌, refl, subst, arith, IsTrue, Option, Some, None}
+use Rattle.std.specs.Prelude.{◌==◌}
 use Rattle.std.proofs.lemmas.Bool.{cond_both, eqb-false}
 use Rattle.std.proofs.lemmas.Option.{none-some, same_Some, cond_some}
-use Rattle.arena_rules.specs.Rounding.{is_layout}
 use Rattle.arena_rules.proofs.UsedBytesLemmas.{used_with_chunk}
 use Rattle.arena_rules.specs.State.{used_bytes, State, is_min_align, IsValid}
 use Rattle.arena_rules.specs.Search.{possible, next_base}
@@ -45,12 +44,9 @@ fixed_valid m size min_align units fits = record {
 pub capacity_entry : (m capacity : ℕ) (e : ℕ × ℕ) → IsTrue (is_min_align m) → 0 < capacity → capacity_chunk capacity m ≡ Some e
     → IsEntry (next_base 4096 m) capacity m e
 unfolding capacity_chunk
-capacity_entry m capacity e min_align some is = go (is_layout capacity m) is
-  where
-    go : (fine : Bool) → (if fine then possible (next_base 4096 m) capacity m capacity else None) ≡ Some e
-        → IsEntry (next_base 4096 m) capacity m e
-    go true at = possible_entry (next_base 4096 m) capacity m capacity e some (min_align_power m min_align) at
-    go false at = absurd (none-some e at)
+capacity_entry m capacity e min_align some is =
+    let found : possible (next_base 4096 m) capacity m capacity ≡ Some e = grind (arith, nat_tests) in
+    possible_entry (next_base 4096 m) capacity m capacity e some (min_align_power m min_align) found
 
 -- an arena with that chunk
 pub capacity_valid : (m capacity : ℕ) (e : ℕ × ℕ) → IsTrue (is_min_align m) → 0 < capacity → capacity_chunk capacity m ≡ Some e

@@ -3,11 +3,11 @@ use Rattle.std.proofs.Common.{ℕ, zero, suc, ◌-◌, ◌<◌, ◌≤◌, inl, 
 use Rattle.std.specs.Prelude.{◌&&◌, ◌||◌, nat_le, nat_lt}
 use Rattle.std.proofs.lemmas.Bool.{and_parts, or_cases, or_left, or_right}
 use Rattle.std.proofs.lemmas.Bool.Decides.{nat_tests}
-use Rattle.arena_rules.specs.State.{State, Chunk, AreChunks, IsValid, start_of, cursor_of, top_of, data_end, is_used_by, is_range_used}
+use Rattle.arena_rules.specs.State.{State, Chunk, AreChunks, IsValid, start_of, cursor_of, top_of, data_end, is_range_used}
 use Rattle.arena_rules.specs.Back.{Point, raised, back, is_in_part}
 use Rattle.arena_rules.proofs.BackLemmas.{valid_after, floor_after}
 use Rattle.arena_rules.proofs.CursorLemmas.{top_floor}
-use Rattle.arena_rules.proofs.UsedLemmas.{used_under, used_beside, within}
+use Rattle.arena_rules.proofs.UsedLemmas.{used_under, used_beside}
 
 module _ (m addr n : ℕ) (some : 0 < n) where
   under_top : (chunks : List Chunk) → AreChunks m chunks → IsTrue (is_range_used chunks addr n) → addr < top_of chunks
@@ -18,12 +18,8 @@ module _ (m addr n : ℕ) (some : 0 < n) where
       → IsTrue (is_range_used (drop k chunks) addr n)
   in_first zero chunks valid below used = used
   in_first (suc k) [] valid below used = used
-  in_first (suc k) (newest ∷ older) valid below used = elim (or_cases (is_used_by addr n newest) (is_range_used older addr n) used) [
-    | inl here ↦
-        let low = (within addr n newest here).low in
-        absurd (omega (arith, below, top_floor (drop k older), floor_after m k older valid.2, valid.1, valid.0.cursor_low))
-    | inr there ↦ in_first k older valid.2 below there
-  ]
+  in_first (suc k) (newest ∷ older) valid below used =
+      grind (arith, nat_tests, top_floor (drop k older), floor_after m k older valid.2, in_first k older valid.2)
 
   in_raised : (c : ℕ) (chunks : List Chunk) → AreChunks m chunks → IsTrue (nat_lt addr (start_of chunks) || nat_le c addr)
       → IsTrue (is_range_used chunks addr n)

@@ -1,6 +1,6 @@
 -- Ranges in use: where they are, and which remain with a new cursor or a new chunk.
 use Rattle.std.proofs.Common.{ℕ, ◌+◌, ◌^◌, ◌<◌, ◌≤◌, ◌⊎◌, inl, inr, arith, List, [], ◌∷◌, IsTrue}
-use Rattle.std.proofs.lemmas.Bool.{or_cases, or_left, or_right}
+use Rattle.std.proofs.lemmas.Bool.{or_cases, or_right}
 use Rattle.std.proofs.lemmas.Bool.Decides.{nat_tests}
 use Rattle.arena_rules.proofs.CursorLemmas.{top_le}
 use Rattle.arena_rules.specs.State.{State, Chunk, AreChunks, IsValid, start_of, cursor_of, top_of, floor_of, data_end, with_newest_cursor, is_used_by, is_range_used}
@@ -27,10 +27,7 @@ used_grown addr n chunk chunks used = or_right (is_used_by addr n chunk) (is_ran
 pub used_under : (m addr n : ℕ) → (chunks : List Chunk) → AreChunks m chunks → 0 < n → IsTrue (is_range_used chunks addr n)
     → addr + n ≤ floor_of chunks
 used_under m addr n [] valid some used = cc
-used_under m addr n (newest ∷ older) valid some used = elim (or_cases (is_used_by addr n newest) (is_range_used older addr n) used) [
-  | inl here ↦ omega (arith, within addr n newest here)
-  | inr there ↦ omega (arith, used_under m addr n older valid.2 some there, valid.0.cursor_low, valid.0.cursor_high, valid.1)
-]
+used_under m addr n (newest ∷ older) valid some used = grind (arith, nat_tests, used_under m addr n older valid.2 some)
 
 -- each chunk begins at 4096 or above
 pub floor_least : (m : ℕ) → (chunks : List Chunk) → AreChunks m chunks → 4096 ≤ floor_of chunks
@@ -82,9 +79,4 @@ used_before q addr n chunks higher used = grind (arith, nat_tests)
 pub used_part : (addr n a k : ℕ) → (chunks : List Chunk) → addr ≤ a → a + k ≤ addr + n → IsTrue (is_range_used chunks addr n)
     → IsTrue (is_range_used chunks a k)
 used_part addr n a k [] low high used = used
-used_part addr n a k (newest ∷ older) low high used = elim (or_cases (is_used_by addr n newest) (is_range_used older addr n) used) [
-  | inl here ↦
-      let bounds = within addr n newest here in
-      or_left (is_used_by a k newest) (is_range_used older a k) (grind (arith, nat_tests))
-  | inr there ↦ or_right (is_used_by a k newest) (is_range_used older a k) (used_part addr n a k older low high there)
-]
+used_part addr n a k (newest ∷ older) low high used = grind (arith, nat_tests, used_part addr n a k older low high)

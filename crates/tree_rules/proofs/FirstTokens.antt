@@ -1,9 +1,9 @@
 -- Tokens that are accepted one by one, the beginnings of a program, and numbers.
-use Rattle.std.proofs.Common.{◌≡◌, ℕ, ◌^◌, ◌≤◌, ◌<◌, max, Bool, true, false, cond, Option, Some, None, List, [], ◌∷◌, ◌++◌, length, refl, sym, ◌∙◌, subst, arith, append_assoc, append-nil}
+use Rattle.std.proofs.Common.{◌≡◌, ℕ, ◌≤◌, max, Bool, true, false, cond, Option, Some, None, List, [], ◌∷◌, ◌++◌, length, refl, sym, ◌∙◌, subst, arith, append_assoc, append-nil}
 use Rattle.std.specs.Prelude.{nat_le}
 use Rattle.std.proofs.lemmas.Bool.Decides.{nat_tests}
 use Rattle.std.proofs.lemmas.Option.{none-some}
-use Rattle.tree_rules.specs.Tokens.{Token, Number}
+use Rattle.tree_rules.specs.Tokens.{Token}
 use Rattle.tree_rules.specs.Grammar.{Program, spell, nest, Begins, BeginsWithin}
 use Rattle.tree_rules.specs.Refusals.{Fits}
 use Rattle.tree_rules.specs.Reading.{State, step, start, is_too_big}
@@ -124,14 +124,7 @@ step_begins_some most front t s next is step_is =
 
 -- a token fits exactly where it isn't too big
 pub size_fits : (t : Token) → (Fits t → is_too_big t ≡ false) × (is_too_big t ≡ false → Fits t)
-size_fits (Number n) = (small n, below n)
-  where
-    small : (n : ℕ) → n < 2 ^ 64 → nat_le (2 ^ 64) n ≡ false
-    small n h = grind (arith, nat_tests)
-
-    below : (n : ℕ) → nat_le (2 ^ 64) n ≡ false → n < 2 ^ 64
-    below n e = grind (arith, nat_tests)
-size_fits _ = (λ h. refl, λ e. tt)
+size_fits t = (λ h. grind (arith, nat_tests), λ e. grind (arith, nat_tests))
 
 pub big_not_fit : (t : Token) → is_too_big t ≡ true → Fits t → ⊥
 big_not_fit t big h = let small = (size_fits t).0 h in absurd (cc)

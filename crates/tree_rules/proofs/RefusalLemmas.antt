@@ -273,8 +273,7 @@ first_says end all q f =
     (judged_cause f.before f.token q (judged a.0 f.token) (judges f.before f.token a.0 a.1) f.cause)
 
 ended_other : (end : ℕ) (mode : Mode) (opens : List Open) → (state mode opens ≡ start → ⊥) → ended_in end mode opens ≡ Some (Syntax end)
-ended_other end AtLine [] other = absurd (other refl)
-ended_other end _ _ other = refl
+ended_other end mode opens other = grind (arith, nat_tests)
 
 over_all : (end : ℕ) (s : State) (all : List Placed) → IsAt all s → refusal_from end start all ≡ ended end s
 unfolding refusal_from

@@ -1,11 +1,11 @@
 -- The tokens of pieces of text, one after another.
 use Rattle.std.proofs.Common.{◌≡◌, ℕ, zero, suc, ◌+◌, ◌-◌, ◌*◌, ◌%◌, ◌<◌, Bool, true, false, List, [], ◌∷◌, ◌++◌, length, get_or, length-append, refl, ap, ◌∙◌, arith, codes}
-use Rattle.std.specs.Prelude.{◌||◌, bytes_eq}
+use Rattle.std.specs.Prelude.{bytes_eq}
 use Rattle.std.specs.List.{list_all}
 use Rattle.std.proofs.lemmas.Bool.Decides.{nat_tests}
 use Rattle.call_rules.specs.Grammar.{number}
 use Rattle.call_rules.proofs.NumberLemmas.{number_by_steps}
-use Rattle.tree_rules.specs.Tokens.{Token, LetKey, Word, Number, Other, is_space, is_digit, is_name_start, is_name_byte, run, word, value, has_needless_zero, number_token, Front, word_front, number_front, other_front, front, placed, tokens_from, without_places}
+use Rattle.tree_rules.specs.Tokens.{Token, LetKey, Word, Number, Other, is_space, is_digit, is_name_start, is_name_byte, run, word, value, has_needless_zero, number_token, Front, word_front, number_front, other_front, front, tokens_from, without_places}
 use Rattle.tree_rules.specs.Trees.{IsName}
 use Rattle.std.proofs.lemmas.Bool.{and_parts, or_left, cond-true, cond-false}
 use Rattle.std.proofs.lemmas.List.Folds.{list_all-append}
@@ -20,19 +20,7 @@ pub lex_is : (at skip : ℕ) (bytes : List ℕ) → without_places (tokens_from 
 unfolding lex tokens_from
 lex_is at skip [] = refl
 lex_is at (suc skip) (b ∷ bytes) = lex_is (suc at) skip bytes
-lex_is at zero (b ∷ bytes) = by (is_space b) (lex_is (suc at) zero bytes) (lex_is (suc at) ((front b bytes).length - 1) bytes)
-  where
-    by : (space : Bool)
-        → without_places (tokens_from (suc at) zero bytes) ≡ lex zero bytes
-        → without_places (tokens_from (suc at) ((front b bytes).length - 1) bytes) ≡ lex ((front b bytes).length - 1) bytes
-        → without_places (elim space [
-          | true ↦ tokens_from (suc at) zero bytes
-          | false ↦ placed at (front b bytes) ∷ tokens_from (suc at)
-              ((front b bytes).length - 1) bytes
-        ])
-        ≡ elim space [ true ↦ lex zero bytes | false ↦ (front b bytes).token ∷ lex ((front b bytes).length - 1) bytes ]
-    by true same more = same
-    by false same more = ap (λ ts. (front b bytes).token ∷ ts) more
+lex_is at zero (b ∷ bytes) = grind (arith, lex_is (suc at) zero bytes, lex_is (suc at) ((front b bytes).length - 1) bytes)
 
 pub lex_behind : (xs rest : List ℕ) → lex (length xs) (xs ++ rest) ≡ lex 0 rest
 unfolding lex
@@ -57,13 +45,7 @@ name_stops (b ∷ bytes) h = rw h refl
 
 digit_stops : (rest : List ℕ) → Stops rest → run is_digit rest ≡ []
 digit_stops [] h = refl
-digit_stops (b ∷ bytes) h =
-    let none : is_digit b ≡ false = no_digit (is_name_start b) (is_digit b) h in
-    rw none refl
-  where
-    no_digit : (a b : Bool) → (a || b) ≡ false → b ≡ false
-    no_digit true b h = cc
-    no_digit false b h = h
+digit_stops (b ∷ bytes) h = grind (arith, nat_tests)
 
 -- ---- Names
 

@@ -1,7 +1,7 @@
 -- The definitions and blocks of a text weigh at most its bytes.
 use Rattle.std.proofs.Common.{◌≡◌, ℕ, zero, suc, ◌+◌, ◌-◌, ◌≤◌, ◌||◌, Bool, true, false, cond, List, [], ◌∷◌, length, refl, sym, subst, arith, Ok}
 use Rattle.std.specs.List.{AllByRecursion}
-use Rattle.tree_rules.specs.Tokens.{Token, LetKey, Word, Plus, Minus, Star, RightParen, RightBrace, Semicolon, Other, is_space, is_digit, is_name_start, is_name_byte, run, look_up, signs, has_needless_zero, word_front, number_front, sign_front, front, placed, tokens_from, without_places}
+use Rattle.tree_rules.specs.Tokens.{Token, LetKey, Word, Plus, Minus, Star, RightParen, RightBrace, Semicolon, Other, is_digit, is_name_start, is_name_byte, run, look_up, signs, has_needless_zero, word_front, number_front, sign_front, front, tokens_from, without_places}
 use Rattle.tree_rules.specs.Trees.{Stmt, Stmts, NoStmts, Then, with_stmt}
 use Rattle.tree_rules.specs.Grammar.{Factor, ANumber, AName, InParens, Negated, Factors, OneFactor, Times, Terms, OneTerm, Added, Taken, Line, LetLine, ShowLine, BlockLine, Program, Empty, Next, spell_factor, spell_factors, spell_terms, spell_line, spell, line_tree, trees_of}
 use Rattle.tree_rules.specs.Refusals.{TreeOf}
@@ -53,11 +53,7 @@ mutual
 
 run_length : (passes : ℕ → Bool) (bytes : List ℕ) → length (run passes bytes) ≤ length bytes
 run_length passes [] = omega arith
-run_length passes (b ∷ bytes) = by (passes b) (run_length passes bytes)
-  where
-    by : (p : Bool) → length (run passes bytes) ≤ length bytes → length (cond p (b ∷ run passes bytes) []) ≤ suc (length bytes)
-    by true less = omega (arith, less)
-    by false less = omega arith
+run_length passes (b ∷ bytes) = grind (arith, run_length passes bytes)
 
 -- at least one byte, no more than there are, and no fewer than the token adds
 record IsFront (token : Token) (n most : ℕ) : Type 0 where
@@ -112,18 +108,8 @@ unfolding tokens_from
 tokens_letters at skip [] = omega arith
 tokens_letters at (suc skip) (b ∷ bytes) = omega (arith, tokens_letters (suc at) skip bytes)
 tokens_letters at zero (b ∷ bytes) =
-    by (is_space b) (tokens_letters (suc at) zero bytes) (tokens_letters (suc at) ((front b bytes).length - 1) bytes)
-  where
-    by : (space : Bool) → all_letters (without_places (tokens_from (suc at) zero bytes)) ≤ length bytes - 0
-        → all_letters (without_places (tokens_from (suc at) ((front b bytes).length - 1) bytes)) ≤ length bytes - ((front b
-        bytes).length - 1)
-        → all_letters (without_places (elim space [
-          | true ↦ tokens_from (suc at) zero bytes
-          | false ↦ placed at (front b bytes) ∷ tokens_from (suc at) ((front b bytes).length - 1) bytes
-        ]))
-        ≤ suc (length bytes) - 0
-    by true near far = omega (arith, near)
-    by false near far = let f = front_is b bytes in omega (arith, far, f.some, f.few, f.covers)
+    let f = front_is b bytes in
+    grind (arith, f, tokens_letters (suc at) zero bytes, tokens_letters (suc at) ((front b bytes).length - 1) bytes)
 
 pub tree_light : (bytes : List ℕ) (ss : Stmts) → TreeOf bytes (Ok ss) → weights ss ≤ length bytes
 tree_light bytes ss tree =

@@ -1,5 +1,5 @@
 -- The tree of a text is well formed: its names are names, its sums and products have several children, its numbers fit.
-use Rattle.std.proofs.Common.{◌≡◌, ℕ, zero, suc, ◌-◌, Bool, true, false, cond, List, [], ◌∷◌, refl, subst, sym, codes}
+use Rattle.std.proofs.Common.{◌≡◌, ℕ, zero, suc, ◌-◌, Bool, true, false, cond, List, [], ◌∷◌, refl, subst, sym, codes, arith}
 use Rattle.std.specs.Prelude.{◌||◌, IsFalse, bytes_eq}
 use Rattle.std.specs.List.{list_all, AllByRecursion}
 use Rattle.tree_rules.specs.Tokens.{Token, LetKey, Word, Plus, Minus, Star, RightParen, RightBrace, Semicolon, Other, is_space, is_digit, is_name_start, is_name_byte, run, word, look_up, signs, sign, has_needless_zero, number_token, word_front, number_front, sign_front, front, tokens, without_places}
@@ -27,12 +27,7 @@ number_named digits =
 
 run_all : (passes : ℕ → Bool) (bytes : List ℕ) → list_all passes (run passes bytes) ≡ true
 run_all passes [] = refl
-run_all passes (b ∷ bytes) = by (passes b) refl (run_all passes bytes)
-  where
-    by : (p : Bool) → passes b ≡ p → list_all passes (run passes bytes) ≡ true
-        → list_all passes (cond p (b ∷ run passes bytes) []) ≡ true
-    by true is all = rw is all
-    by false is all = refl
+run_all passes (b ∷ bytes) = grind (arith, run_all passes bytes)
 
 -- names that begin at a byte that may begin one
 begun : (b : ℕ) (bytes : List ℕ) → is_name_start b ≡ true → IsNamed (word (run is_name_byte (b ∷ bytes)))
