@@ -4,6 +4,7 @@ pub mod GivenLemmas
 pub mod LineLemmas
 pub mod PrintLemmas
 pub mod PartCostLemmas
+pub mod GatherLemmas
 pub mod CopyLayoutLemmas
 pub mod AskedLemmas
 pub mod CloneCostLemmas

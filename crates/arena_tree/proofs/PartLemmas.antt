@@ -14,7 +14,7 @@ use Rattle.tree_reader.specs.Seen.{tokens_at}
 use Rattle.tree_nodes.specs.declared.node.Kind.TheVariants as kind
 use Rattle.tree_nodes.specs.declared.node.Node.{Node}
 use Rattle.arena_tree.specs.TreesAt.{kids_of, IsPlaced}
-use Rattle.arena_tree.specs.Subtrees.{OfExpr, expr_row, IsRowBuilt}
+use Rattle.arena_tree.specs.Subtrees.{OfExpr, expr_row, IsRowBuilt, IsRowRead}
 use Rattle.arena_tree.specs.Parts.{IsTokenAt, IsRefusedAt, NoFactorIn, Opens, PlainOpens, factor_at, factor_behind, terms_at, terms_behind, sign_of, signed_tree, Reads}
 use Rattle.arena_tree.specs.LineParts.{braces, at_line, at_value, line_at, NoLineIn}
 use Rattle.tree_nodes.proofs.BuildLemmas.{HasKidsAlone, sum_placed}
@@ -178,11 +178,11 @@ pub reads_terms : {bytes : List ℕ} {at next end deep : ℕ} (minus : Bool) (s 
 reads_terms true s t a b = reads_then a b
 reads_terms false s t a b = reads_then a b
 
-pub terms_more : {old new : Memory} {v : Vec Node} (minus : Bool) (s : Terms) (t : Factors)
-    → IsRowBuilt (expr_row (term_trees s) ++ OfExpr (signed_tree minus (factors_tree t)) ∷ []) old new v
-    → IsRowBuilt (expr_row (term_trees (joined minus s t))) old new v
-terms_more true s t built = exprs_more (term_trees s) (signed_tree true (factors_tree t)) built
-terms_more false s t built = exprs_more (term_trees s) (signed_tree false (factors_tree t)) built
+pub terms_more : {old new : Memory} {v : Vec Node} {ns : List Node} (minus : Bool) (s : Terms) (t : Factors)
+    → IsRowRead (expr_row (term_trees s) ++ OfExpr (signed_tree minus (factors_tree t)) ∷ []) old new v ns
+    → IsRowRead (expr_row (term_trees (joined minus s t))) old new v ns
+terms_more true s t row = exprs_more (term_trees s) (signed_tree true (factors_tree t)) row
+terms_more false s t row = exprs_more (term_trees s) (signed_tree false (factors_tree t)) row
 
 pub terms_placed : {old new : Memory} {v : Vec Node} {n : Node} (minus : Bool) (s : Terms) (t : Factors)
     → IsRowBuilt (expr_row (term_trees (joined minus s t))) old new v → n.kind ≡ kind.Sum → kids_of n ≡ v

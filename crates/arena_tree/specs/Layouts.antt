@@ -3,7 +3,7 @@ use Rattle.std.specs.Prelude.{◌≡◌, ℕ, ◌+◌, ◌*◌, ◌^◌, ◌<◌
 use Rattle.arena_items.specs.Denied.{Layouts, TextOf}
 use Rattle.tree_rules.specs.Tokens.{Token, Word, Minus, Star}
 use Rattle.tree_rules.specs.Grammar.{Factors, Terms, Line, Program, spell_factors, spell_terms, spell_line, spell, factor_trees, term_trees, trees_of}
-pub use Rattle.tree_nodes.specs.Layouts.{ListOf, LongerList, IsDoubled}
+pub use Rattle.tree_nodes.specs.Layouts.{ListOf, LongerList, ListFor, IsDoubled}
 use Rattle.arena_tree.specs.Subtrees.{Subtree, expr_row, stmt_row}
 use Rattle.arena_tree.specs.Parts.{spelled_at, IsTokenAt, sign_of}
 
@@ -37,15 +37,20 @@ row_before (ATerm s minus) = expr_row (term_trees s)
 row_before (AFactor t) = expr_row (factor_trees t)
 row_before ANegated = []
 
--- A list as it grows by doubling: half of this room isn't enough for a node of the text's tree and those before it.
+-- the room that a list of so many nodes may have
+abbrev pub IsRoomFor : (many room : ℕ) → Type 0
+IsRoomFor many room = (room ≡ many) ⊎ ((room < 2 * many) × (power : ℕ) × (room ≡ 2 ^ power))
+
+-- A list of the text's tree: it has room for just a node and those before it, or it grew by doubling, and half of its
+-- room isn't enough for them.
 pub record IsListIn (bytes : List ℕ) (size align : ℕ) : Type 0 where
   pub entry : Entry
   pub at : ℕ
   pub end : ℕ
   pub stands : spelled_at bytes at ≡ spell_to entry (spelled_at bytes end)
-  pub power : ℕ
-  pub needed : 2 ^ power < 2 * (length (row_before entry) + 1)
-  pub layout : ListOf (2 ^ power) size align
+  pub room : ℕ
+  pub fits : IsRoomFor (length (row_before entry) + 1) room
+  pub layout : ListOf room size align
 
 -- the names of the text, and the lists of its tree
 abbrev pub AskedFor : List ℕ → Layouts

@@ -1,5 +1,5 @@
 -- Lists with room for all nodes that are to come.
-use Rattle.std.proofs.Common.{◌≡◌, ◌+◌, sym, subst, Result, Ok, Err, [], ◌∷◌, ◌++◌}
+use Rattle.std.proofs.Common.{◌≡◌, ◌+◌, sym, subst, Result, Ok, Err, List, [], ◌∷◌, ◌++◌, length}
 use Rattle.arena_chunks.specs.Memory.{Memory}
 use Rattle.arena_chunks.specs.Source.{View}
 use Rattle.arena_chunks.specs.Frame.{Frame}
@@ -26,11 +26,11 @@ room_built old new v held none frame = record {
   lean = subst (AreLean new) (sym none) (lean_none new);
 }
 
--- Where there is room, a node is never refused, and no cursor moves.
-module _ (old new : View) (v w : Vec Node) (n : Node)
-    (stays : amortised_growth 88 v.raw.cap (v.raw.len + 1) ≡ Stays) where
+-- Where there is room, nodes are never refused, and no cursor moves.
+module _ (old new : View) (v w : Vec Node) (ns : List Node)
+    (stays : amortised_growth 88 v.raw.cap (v.raw.len + length ns) ≡ Stays) where
   abbrev pub growth : Result (Unit {0}) AllocError → Type 0
-  growth result = Grows node_item old new v (amortised_growth 88 v.raw.cap (v.raw.len + 1)) (vec_list node_item old.memory v ++ n ∷ [])
+  growth result = Grows node_item old new v (amortised_growth 88 v.raw.cap (v.raw.len + length ns)) (vec_list node_item old.memory v ++ ns)
       w result
 
   pub never_refused : (e : AllocError) → growth (Err e) → ⊥

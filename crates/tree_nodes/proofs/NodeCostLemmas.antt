@@ -1,8 +1,8 @@
--- What it costs to append a node to a list.
+-- What it costs to append nodes to a list.
 use Rattle.std.proofs.Common.{◌≡◌, ℕ, suc, ◌+◌, ◌-◌, ◌*◌, ◌^◌, ◌<◌, ◌≤◌, refl, sym, ap, subst, ◌∙◌, arith, IsTrue, Ok, Err, List, [], ◌∷◌, ◌++◌, length, length-append, ◌⊎◌, inl, inr, max, None}
 use Rattle.std.proofs.Math.Nat.{one-le-pow, pow-suc}
 use Rattle.std.proofs.lemmas.Bool.{cases_lt}
-use Rattle.std.specs.Prelude.{Result, Option, OnOk, OnErr}
+use Rattle.std.specs.Prelude.{Result, Option, IfOk, OnOk, OnErr}
 use Rattle.arena_rules.specs.Rounding.{is_layout}
 use Rattle.arena_rules.specs.Search.{place}
 use Rattle.arena_rules.specs.State.{allocated_bytes, top_of}
@@ -30,10 +30,10 @@ use Rattle.arena_vec.specs.Vecs.{IsVecIn}
 use Rattle.arena_vec.specs.declared.vec.Vec.{Vec}
 use Rattle.tree_nodes.specs.NodeForms.{plain_88_8}
 use Rattle.tree_nodes.specs.TreesAt.{node_item}
-use Rattle.tree_nodes.specs.Layouts.{ListOf, LongerList, IsDoubled}
-use Rattle.tree_nodes.specs.Spending.{IsStarvedBehind, Stops, Spends, error_of}
+use Rattle.tree_nodes.specs.Layouts.{ListOf, LongerList, ListFor, IsDoubled}
+use Rattle.tree_nodes.specs.Spending.{IsStarvedBehind, Stops, Spends, SpendsOnMore, error_of}
 use Rattle.tree_nodes.specs.declared.node.Node.{Node}
-use Rattle.tree_nodes.proofs.SpendingLemmas.{frame_kind, spends_more, asks_of}
+use Rattle.tree_nodes.proofs.SpendingLemmas.{frame_kind, spends_more, asks_of, asks_any}
 
 same_more : (a b : ℕ) → GrowsTo a ≡ GrowsTo b → a ≡ b
 same_more a b is = cc
@@ -58,8 +58,8 @@ refused_place old new size align k layout places =
     places.1.outcome.1.step in
     rw (ap (λ (m : Memory). m.state) places.1.outcome.1.memory) failed.none
 
-pub pushed_length : (ns : List Node) (n : Node) (len : ℕ) → length ns ≡ len → length (ns ++ n ∷ []) ≡ len + 1
-pushed_length ns n len is = omega (arith, length-append ns (n ∷ []), is)
+pub pushed_length : (ns ks : List Node) (len : ℕ) → length ns ≡ len → length (ns ++ ks) ≡ len + length ks
+pushed_length ns ks len is = omega (arith, length-append ns ks, is)
 
 pub unchanged : {old new : Memory} → new ≡ old → Frame old new [] []
 unchanged {old} same = subst (λ m. Frame old m [] []) (sym same) (frame_reflexive old [])
@@ -81,32 +81,33 @@ pub record Paid : Type 0 where
   pub grows : (size cap required wanted : ℕ) → cap < required → required < 2 ^ 32 → required * size < 2 ^ 32
       → growth_to size cap required wanted ≡ GrowsTo wanted
 
--- room for one more than a full list has is a power of two, if its capacity is one or 0
-pub more_doubled : (len cap : ℕ) → len ≤ cap → cap ≤ len → IsDoubled cap → (power : ℕ) × (max (2 * cap) (len + 1) ≡ 2 ^ power)
-more_doubled len cap within full (inl none) = (0, omega (arith, within, none))
-more_doubled len cap within full (inr is) =
-    (suc is.0, omega (arith, within, full, is.1, one-le-pow is.0 2 (omega arith), pow-suc 2 is.0))
+-- room for so many more than a full list has is a power of two, if its capacity is one or 0
+more_doubled : (n power len cap : ℕ) → n ≡ 2 ^ power → len ≤ cap → cap < len + n → IsDoubled n cap → IsDoubled n (max (2 * cap) (len + n))
+more_doubled n power len cap many within full (inl none) = inr (omega arith, power, omega (arith, many, within, none))
+more_doubled n power len cap many within full (inr is) =
+    inr (omega (arith, is.0), suc is.1, omega (arith, within, full, is.0, is.2, pow-suc 2 is.1))
 
--- What the capacity becomes for one more node.
-module _ (paid : Paid) (len cap : ℕ) (few : len ≤ 2 ^ 24) where
-  full_grows : cap < len + 1 → amortised_growth 88 cap (len + 1) ≡ GrowsTo (max (2 * cap) (len + 1))
+-- What the capacity becomes for so many more nodes.
+module _ (paid : Paid) (len cap n : ℕ) (few : len + n ≤ 2 ^ 24 + 4) where
+  full_grows : cap < len + n → amortised_growth 88 cap (len + n) ≡ GrowsTo (max (2 * cap) (len + n))
   full_grows full =
-      paid.grows 88 cap (len + 1) (amortised 88 cap (len + 1)) full (omega arith) (omega arith)
-      ∙ ap GrowsTo (paid.doubles 88 cap (len + 1) (omega (arith, full)) (omega (arith, full)))
+      paid.grows 88 cap (len + n) (amortised 88 cap (len + n)) full (omega arith) (omega arith)
+      ∙ ap GrowsTo (paid.doubles 88 cap (len + n) (omega (arith, full)) (omega (arith, full)))
 
-  pub cap_doubled : len ≤ cap → IsDoubled cap → IsDoubled (capacity_after (amortised_growth 88 cap (len + 1)) cap)
-  cap_doubled within doubled = by (cases_lt cap (len + 1))
+  pub cap_doubled : (power : ℕ) → n ≡ 2 ^ power → len ≤ cap → IsDoubled n cap
+      → IsDoubled n (capacity_after (amortised_growth 88 cap (len + n)) cap)
+  cap_doubled power many within doubled = by (cases_lt cap (len + n))
     where
-      by : (cap < len + 1) ⊎ (len + 1 ≤ cap) → IsDoubled (capacity_after (amortised_growth 88 cap (len + 1)) cap)
-      by (inl full) = subst (λ (g : Growth). IsDoubled (capacity_after g cap)) (sym (full_grows full))
-          (inr (more_doubled len cap within (omega (arith, full)) doubled))
-      by (inr room) = subst (λ (g : Growth). IsDoubled (capacity_after g cap))
-          (sym (paid.stays 88 cap (len + 1) (amortised 88 cap (len + 1)) room)) doubled
+      by : (cap < len + n) ⊎ (len + n ≤ cap) → IsDoubled n (capacity_after (amortised_growth 88 cap (len + n)) cap)
+      by (inl full) = subst (λ (g : Growth). IsDoubled n (capacity_after g cap)) (sym (full_grows full))
+          (more_doubled n power len cap many within full doubled)
+      by (inr room) = subst (λ (g : Growth). IsDoubled n (capacity_after g cap))
+          (sym (paid.stays 88 cap (len + n) (amortised 88 cap (len + n)) room)) doubled
 
 module _ (paid : Paid) (old new : View) (v w : Vec Node) (list : List Node) (one : old.memory.state.min_align ≡ 1)
-    (held : IsVecIn node_item old.memory v) (few : v.raw.len ≤ 2 ^ 24) (longer : length list ≡ v.raw.len + 1) where
+    (held : IsVecIn node_item old.memory v) (n : ℕ) (some : 1 ≤ n) (few : v.raw.len + n ≤ 2 ^ 24 + 4) (longer : length list ≡ v.raw.len + n) where
   abbrev pub growth : Growth
-  growth = amortised_growth 88 v.raw.cap (v.raw.len + 1)
+  growth = amortised_growth 88 v.raw.cap (v.raw.len + n)
 
   abbrev pub credit : ℕ
   credit = credit_of 88 v.raw.len v.raw.cap
@@ -117,10 +118,10 @@ module _ (paid : Paid) (old new : View) (v w : Vec Node) (list : List Node) (one
   abbrev Pushes : Result (Unit {0}) AllocError → Type 0
   Pushes result = Grows {X = Unit {0}} node_item old new v growth list w result
 
-  asked : asked_by 88 growth + credit_of 88 (v.raw.len + 1) (capacity_after growth v.raw.cap) ≤ credit + 352
-  asked = omega (arith, paid.asks 88 v.raw.cap v.raw.len 1 held.within (omega arith) (omega arith))
+  asked : asked_by 88 growth + credit_of 88 (v.raw.len + n) (capacity_after growth v.raw.cap) ≤ credit + 352 * n
+  asked = omega (arith, paid.asks 88 v.raw.cap v.raw.len n held.within (omega arith) (omega arith))
 
-  small : (more : ℕ) → growth ≡ GrowsTo more → more * 88 ≤ credit + 352
+  small : (more : ℕ) → growth ≡ GrowsTo more → more * 88 ≤ credit + 352 * n
   small more is = omega (arith, rw is at asked)
 
   layout : (more : ℕ) → growth ≡ GrowsTo more → IsTrue (is_layout (more * 88) 8)
@@ -128,18 +129,18 @@ module _ (paid : Paid) (old new : View) (v w : Vec Node) (list : List Node) (one
 
   -- No growth overflows.
   never : (result : Result (Unit {0}) AllocError) → growth ≡ Overflows → Pushes result → ⊥
-  never result is grows = paid.fits old new v w (v.raw.len + 1) list result (omega arith) (omega arith) grows (rw is at grows.made).0
+  never result is grows = paid.fits old new v w (v.raw.len + n) list result (omega arith) (omega arith) grows (rw is at grows.made).0
 
-  -- One more node is paid by its cost and by what the list saved.
+  -- The nodes are paid by their cost and by what the list saved.
   costs : (g : Growth) → growth ≡ g → (result : Result (Unit {0}) AllocError) → Pushes result
-      → Costs {X = Unit {0}} farthest 359 credit later old new result
+      → Costs {X = Unit {0}} farthest (359 * n) credit later old new result
   costs Stays is (Ok tt) grows =
       let kept : w.raw.cap ≡ v.raw.cap = rw is at grows.cap in
-      costs_nothing farthest 359 credit later old new tt (rw is at grows.made).1 (omega (arith, rw is at asked, kept, grows.len, longer))
+      costs_nothing farthest (359 * n) credit later old new tt (rw is at grows.made).1 (omega (arith, rw is at asked, kept, grows.len, longer))
   costs Stays is (Err e) grows = absurd (rw is at grows.made).0
   costs (GrowsTo more) is result grows =
-      room_costs old new v.raw.block 88 8 v.raw.cap more (λ (x : Unit {0}). w.raw.block) 359 credit later one held.place result
-      (rw is at (paid.keeps 88 v.raw.cap (v.raw.len + 1))) (record {
+      room_costs old new v.raw.block 88 8 v.raw.cap more (λ (x : Unit {0}). w.raw.block) (359 * n) credit later one held.place result
+      (rw is at (paid.keeps 88 v.raw.cap (v.raw.len + n))) (record {
         layout = layout more is;
         small = omega arith;
         bounded = omega (arith, small more is);
@@ -148,26 +149,26 @@ module _ (paid : Paid) (old new : View) (v w : Vec Node) (list : List Node) (one
         err = err result grows;
       }) (rw is at grows.made)
     where
-      ok : (result : Result (Unit {0}) AllocError) → Pushes result → OnOk result (more * 88 + (8 - 1) + later ≤ 359 + credit)
+      ok : (result : Result (Unit {0}) AllocError) → Pushes result → OnOk result (more * 88 + (8 - 1) + later ≤ 359 * n + credit)
       ok (Ok tt) grows = let kept : w.raw.cap ≡ more = rw is at grows.cap in omega (arith, rw is at asked, kept, grows.len, longer)
       ok (Err e) grows = tt
 
-      err : (result : Result (Unit {0}) AllocError) → Pushes result → OnErr result (later ≤ 359 + credit)
+      err : (result : Result (Unit {0}) AllocError) → Pushes result → OnErr result (later ≤ 359 * n + credit)
       err (Ok tt) grows = tt
       err (Err e) grows = omega (arith, ap (λ (u : Vec Node). credit_of 88 u.raw.len u.raw.cap) grows.err.0)
   costs Overflows is result grows = absurd (never result is grows)
 
   -- the list that is asked for where there is no room
-  becomes_longer : (g : Growth) → growth ≡ g → (more : ℕ) → g ≡ GrowsTo more → LongerList v.raw.len v.raw.cap (more * 88) 8
-  becomes_longer g is more grown = by (cases_lt v.raw.cap (v.raw.len + 1))
+  becomes_longer : (g : Growth) → growth ≡ g → (more : ℕ) → g ≡ GrowsTo more → LongerList v.raw.len v.raw.cap n (more * 88) 8
+  becomes_longer g is more grown = by (cases_lt v.raw.cap (v.raw.len + n))
     where
-      by : (v.raw.cap < v.raw.len + 1) ⊎ (v.raw.len + 1 ≤ v.raw.cap) → LongerList v.raw.len v.raw.cap (more * 88) 8
+      by : (v.raw.cap < v.raw.len + n) ⊎ (v.raw.len + n ≤ v.raw.cap) → LongerList v.raw.len v.raw.cap n (more * 88) 8
       by (inl full) =
-          let same = sym grown ∙ sym is ∙ full_grows paid v.raw.len v.raw.cap few full in
-          (omega (arith, full), (ap (λ n. n * 88) (same_more more (max (2 * v.raw.cap) (v.raw.len + 1)) same), refl))
-      by (inr room) = absurd (stays_grows more (sym (paid.stays 88 v.raw.cap (v.raw.len + 1) _ room) ∙ is ∙ grown))
+          let same = sym grown ∙ sym is ∙ full_grows paid v.raw.len v.raw.cap n few full in
+          (omega (arith, full), (ap (λ n. n * 88) (same_more more (max (2 * v.raw.cap) (v.raw.len + n)) same), refl))
+      by (inr room) = absurd (stays_grows more (sym (paid.stays 88 v.raw.cap (v.raw.len + n) _ room) ∙ is ∙ grown))
 
-  denied : (g : Growth) (k : ℕ) → growth ≡ g → Pushes (Err (AllocErr k)) → IsDenied (LongerList v.raw.len v.raw.cap) new
+  denied : (g : Growth) (k : ℕ) → growth ≡ g → Pushes (Err (AllocErr k)) → IsDenied (LongerList v.raw.len v.raw.cap n) new
   denied Stays k is grows = absurd (rw is at grows.made).0
   denied (GrowsTo more) k is grows = record {
     size = more * 88;
@@ -187,7 +188,7 @@ module _ (paid : Paid) (old new : View) (v w : Vec Node) (list : List Node) (one
   counts Overflows k is grows = absurd (never (Err (AllocErr k)) is grows)
 
   pub node_spends : (result : Result (Unit {0}) AllocError) → Grows node_item old new v growth list w result
-      → Spends (LongerList v.raw.len v.raw.cap) 359 credit later old new (error_of result)
+      → Spends (LongerList v.raw.len v.raw.cap n) (359 * n) credit later old new (error_of result)
   node_spends result grows =
       let cost = costs growth refl result grows in
       record { takes = cost.takes; asks = cost.asks; kind = frame_kind grows.frame; stops = stops result grows cost }
@@ -198,8 +199,8 @@ module _ (paid : Paid) (old new : View) (v w : Vec Node) (list : List Node) (one
       far (inr (inl much)) = inr (inl much)
       far (inr (inr refused)) = inl refused
 
-      stops : (r : Result (Unit {0}) AllocError) → Pushes r → Costs {X = Unit {0}} farthest 359 credit later old new r
-          → Stops (LongerList v.raw.len v.raw.cap) (used old + (359 + credit)) old new (error_of r)
+      stops : (r : Result (Unit {0}) AllocError) → Pushes r → Costs {X = Unit {0}} farthest (359 * n) credit later old new r
+          → Stops (LongerList v.raw.len v.raw.cap n) (used old + (359 * n + credit)) old new (error_of r)
       stops (Ok tt) grows cost = tt
       stops (Err (AllocErr k)) grows cost = (
         record {
@@ -212,15 +213,32 @@ module _ (paid : Paid) (old new : View) (v w : Vec Node) (list : List Node) (one
       )
       stops (Err OutOfMemory) grows cost = unchanged grows.err.1
       stops (Err CapacityOverflow) grows cost =
-          absurd (paid.fits old new v w (v.raw.len + 1) list (Err CapacityOverflow) (omega arith) (omega arith) grows refl)
+          absurd (paid.fits old new v w (v.raw.len + n) list (Err CapacityOverflow) (omega arith) (omega arith) grows refl)
 
 -- The first node of a new list costs as much, since nothing is saved for it.
 pub first_node : (old new : View) (v : Vec Node) (later : ℕ) (error : Option AllocError) → v.raw.len ≡ 0
-    → Spends (LongerList v.raw.len v.raw.cap) 359 (credit_of 88 v.raw.len v.raw.cap) later old new error
+    → Spends (LongerList v.raw.len v.raw.cap 1) 359 (credit_of 88 v.raw.len v.raw.cap) later old new error
     → Spends (ListOf 1) 359 0 0 old new error
 first_node old new v later error none spends =
     asks_of (λ size align longer. (longer.1.0 ∙ ap (λ n. n * 88) (one longer.0), longer.1.1))
     (spends_more spends (omega (arith, none)) (omega (arith, none)))
   where
-    one : v.raw.cap ≤ v.raw.len → max (2 * v.raw.cap) (v.raw.len + 1) ≡ 1
+    one : v.raw.cap < v.raw.len + 1 → max (2 * v.raw.cap) (v.raw.len + 1) ≡ 1
     one few = omega (arith, few, none)
+
+-- A first list of so many nodes is paid by their cost.
+pub list_spends : {len cap n room : ℕ} (old new : View) (result : Result (Vec Node) AllocError) → cap ≡ 0 → len ≤ cap → 1 ≤ n
+    → (n ≤ room) × (room ≤ 2 * n) → Spends (ListOf room) (128 * room) 0 0 old new (error_of result)
+    → IfOk result (λ v. v.raw.len ≡ n) → IfOk result (λ v. v.raw.cap ≡ room)
+    → SpendsOnMore (ListFor len cap n room) (359 * n) (credit_of 88 len cap) old new result
+list_spends {len} {cap} {n} {room} old new result none within some fits spends len_is cap_is =
+    subst (λ before. SpendsOnMore (ListFor len cap n room) (359 * n) before old new result) unsaved (by result spends len_is cap_is)
+  where
+    unsaved : 0 ≡ credit_of 88 len cap
+    unsaved = omega (arith, none, within)
+
+    by : (r : Result (Vec Node) AllocError) → Spends (ListOf room) (128 * room) 0 0 old new (error_of r)
+        → IfOk r (λ v. v.raw.len ≡ n) → IfOk r (λ v. v.raw.cap ≡ room) → SpendsOnMore (ListFor len cap n room) (359 * n) 0 old new r
+    by (Ok v) spends len_is cap_is = asks_any (spends_more spends (omega (arith, fits, some)) (omega (arith, fits, some, len_is, cap_is)))
+    by (Err e) spends len_is cap_is = asks_of (λ size align list. inl (none, list))
+        (spends_more spends (omega (arith, fits, some)) (omega (arith, fits, some)))

@@ -1,9 +1,10 @@
 -- Lists of nodes that are built, one tree after another.
-use Rattle.std.proofs.Common.{◌≡◌, ℕ, suc, zero, ◌+◌, ◌-◌, ◌<◌, ◌≤◌, ap, sym, refl, subst, ◌∙◌, Some, List, [], ◌∷◌, ◌++◌, append_assoc, take, drop, length, arith, append-nil}
+use Rattle.std.proofs.Common.{◌≡◌, ℕ, suc, zero, ◌+◌, ◌-◌, ◌<◌, ◌≤◌, ap, sym, refl, subst, ◌∙◌, Some, List, [], ◌∷◌, ◌++◌, append_assoc, take, drop, length, length-append, arith, append-nil}
 use Rattle.std.specs.Prelude.{slice_get}
 use Rattle.arena_chunks.specs.Memory.{Memory}
 use Rattle.arena_chunks.specs.Frame.{Frame, ArePairwiseApart}
-use Rattle.arena_chunks.proofs.Layers.{all_apart, apart_both, pairwise_both, all_from_both, frame_then, frame_beside, frame_reflexive, empty_after}
+use Rattle.arena_store.specs.declared.block.Block.{Block}
+use Rattle.arena_chunks.proofs.Layers.{all_apart, apart_both, pairwise_both, all_from_both, frame_then, frame_beside, frame_reflexive, frame_forget, empty_after}
 use Rattle.arena_items.specs.Footprint.{AreReadable, Agree}
 use Rattle.arena_vec.specs.Vecs.{IsVecIn, vec_list}
 use Rattle.arena_vec.specs.declared.vec.Vec.{Vec}
@@ -13,10 +14,10 @@ use Rattle.tree_nodes.specs.TreesAt.{node_item, AreLean, IsBuilt}
 use Rattle.tree_nodes.specs.StmtsAt.{AreBuilt}
 use Rattle.tree_nodes.specs.TreeLaws.{list_same, list_held, expr_readable, expr_names, expr_again, readable_both, readable_each, agree_each}
 use Rattle.tree_nodes.specs.StmtLaws.{stmt_readable, stmt_names, stmt_again}
-use Rattle.tree_nodes.specs.Subtrees.{Subtree, OfExpr, OfStmt, SubtreeAt, blocks_at, below_it, row_nodes, HasTree, expr_row, stmt_row, RowAt, row_blocks, IsTreePlaced, IsRowBuilt}
+use Rattle.tree_nodes.specs.Subtrees.{Subtree, OfExpr, OfStmt, SubtreeAt, blocks_at, below_it, row_nodes, HasTree, expr_row, stmt_row, RowAt, row_blocks, IsTreePlaced, IsRowBuilt, AreGathered, IsRowRead}
 use Rattle.tree_nodes.proofs.StayLemmas.{stay_all, all_none, turned_one, frame_behind}
-use Rattle.tree_nodes.proofs.LeanLemmas.{lean_none, lean_both, expr_blocks_are, stmt_blocks_are, row_stays_lean, it_stays_lean}
-use Rattle.tree_nodes.proofs.WalkLemmas.{some_node, none_node}
+use Rattle.tree_nodes.proofs.LeanLemmas.{lean_none, lean_both, expr_blocks_are, stmt_blocks_are, row_stays_lean}
+use Rattle.tree_nodes.proofs.WalkLemmas.{some_node, none_node, list_len}
 use Rattle.tree_nodes.proofs.SubtreeLemmas.{row_exprs_at, row_stmts_at, row_length}
 use Rattle.std.proofs.lemmas.List.{take_all}
 
@@ -48,22 +49,55 @@ row_stays (t ∷ ts) a c (n ∷ ns) at same reads =
 row_stays [] a c [] at same reads = (tt, refl)
 row_stays ts a c ns at same reads = absurd at
 
--- ---- One tree more at the end
+-- ---- Trees, and others behind them
 
-one_more : (ts : List Subtree) (t : Subtree) (m : Memory) (ns : List Node) (n : Node) → RowAt ts m ns → SubtreeAt t m n
-    → RowAt (ts ++ t ∷ []) m (ns ++ n ∷ []) × (row_blocks (ts ++ t ∷ []) m (ns ++ n ∷ []) ≡ row_blocks ts m ns ++ blocks_at t m n)
-one_more [] t m [] n at one = ((one, tt), append-nil (blocks_at t m n))
-one_more (r ∷ ts) t m (k ∷ ns) n at one =
-    let more = one_more ts t m ns n at.1 one in (
-      (at.0, more.0),
-      ap (λ bs. blocks_at r m k ++ bs) more.1 ∙ sym (append_assoc (blocks_at r m k) (row_blocks ts m ns) (blocks_at t m n)),
+rows_both : (ts us : List Subtree) (m : Memory) (ns ks : List Node) → RowAt ts m ns → RowAt us m ks
+    → RowAt (ts ++ us) m (ns ++ ks) × (row_blocks (ts ++ us) m (ns ++ ks) ≡ row_blocks ts m ns ++ row_blocks us m ks)
+rows_both [] us m [] ks at others = (others, refl)
+rows_both (t ∷ ts) us m (n ∷ ns) ks at others =
+    let both = rows_both ts us m ns ks at.1 others in (
+      (at.0, both.0),
+      ap (λ bs. blocks_at t m n ++ bs) both.1 ∙ sym (append_assoc (blocks_at t m n) (row_blocks ts m ns) (row_blocks us m ks)),
     )
-one_more ts t m ns n at one = absurd at
+rows_both ts us m ns ks at others = absurd at
 
 tree_placed : (t : Subtree) (old new : Memory) (n : Node) → IsTreePlaced t old new n
     → SubtreeAt t new n × ArePairwiseApart (blocks_at t new n) × Frame old new [] (blocks_at t new n) × AreLean new (n ∷ [])
 tree_placed (OfExpr e) old new n p = (p.stands, p.apart, p.frame, p.lean)
 tree_placed (OfStmt s) old new n p = (p.stands, p.apart, p.frame, p.lean)
+
+-- ---- Trees whose nodes are in no list yet
+
+pub gathered_none : (m : Memory) → AreGathered [] m m []
+gathered_none m = record { stand = tt; apart = tt; frame = frame_reflexive m []; lean = lean_none m }
+
+pub gathered_one : (t : Subtree) {old new : Memory} {n : Node} → IsTreePlaced t old new n → AreGathered (t ∷ []) old new (n ∷ [])
+gathered_one t {old} {new} {n} placed =
+    let p = tree_placed t old new n placed in
+    let none = append-nil (blocks_at t new n) in
+    record {
+      stand = (p.0, tt);
+      apart = subst ArePairwiseApart (sym none) p.1;
+      frame = subst (Frame old new []) (sym none) p.2;
+      lean = p.3;
+    }
+
+gathered_then : {ts us : List Subtree} {old one two : Memory} {ns ks : List Node} → AreGathered ts old one ns → AreGathered us one two ks
+    → AreGathered (ts ++ us) old two (ns ++ ks)
+gathered_then {ts} {us} {old} {one} {two} {ns} {ks} first rest =
+    let eb = row_blocks ts one ns in
+    let nb = row_blocks us two ks in
+    let stay = stay_all one two [] nb eb rest.frame (row_readable ts one ns first.stand) (all_none eb) in
+    let trees = row_stays ts one two ns first.stand stay.agree stay.readable in
+    let both = rows_both ts us two ns ks trees.0 rest.stand in
+    let blocks : row_blocks (ts ++ us) two (ns ++ ks) ≡ eb ++ nb = both.1 ∙ ap (λ bs. bs ++ nb) trees.1 in
+    record {
+      stand = both.0;
+      apart = subst ArePairwiseApart (sym blocks) (pairwise_both eb nb first.apart rest.apart stay.apart);
+      frame = subst (Frame old two []) (sym blocks)
+          (frame_then old one two [] eb (eb ++ nb) first.frame (frame_behind one two nb eb rest.frame));
+      lean = lean_both two ns ks (row_stays_lean ts one two ns first.stand stay.agree first.lean) rest.lean;
+    }
 
 -- no trees, in a list with no storage
 pub row_none : (m : Memory) (v : Vec Node) → IsVecIn node_item m v → vec_list node_item m v ≡ [] → v.raw.block.size ≡ 0
@@ -76,78 +110,131 @@ row_none m v held none size = record {
   lean = subst (AreLean m) (sym none) (lean_none m);
 }
 
--- A tree that was placed before is appended to a list with room, in a block that was free.
-pub row_first : (t : Subtree) (old one mid new : Memory) (v w : Vec Node) (n : Node) → IsTreePlaced t old one n → IsRowBuilt [] one mid v
-    → IsVecIn node_item new w → vec_list node_item new w ≡ vec_list node_item mid v ++ n ∷ []
-    → Frame mid new (v.raw.block ∷ []) (w.raw.block ∷ []) → IsRowBuilt (t ∷ []) old new w
-row_first t old one mid new v w n placed room held list_is filled =
+-- Trees that were placed before are written into a list with room, in a block that was free.
+pub row_of : (ts : List Subtree) {old one mid new : Memory} {v w : Vec Node} {ns : List Node} → AreGathered ts old one ns
+    → IsRowBuilt [] one mid v → IsVecIn node_item new w → vec_list node_item new w ≡ vec_list node_item mid v ++ ns
+    → Frame mid new (v.raw.block ∷ []) (w.raw.block ∷ []) → IsRowBuilt ts old new w
+row_of ts {old} {one} {mid} {new} {v} {w} {ns} placed room held list_is filled =
     let wb = w.raw.block in
-    let nb = blocks_at t one n in
-    let p = tree_placed t old one n placed in
+    let nb = row_blocks ts one ns in
     let frame : Frame one new [] (wb ∷ []) = frame_then one mid new [] (v.raw.block ∷ []) (wb ∷ []) room.frame filled in
-    let stay = stay_all one new [] (wb ∷ []) nb frame (it_readable t one n p.0) (all_none nb) in
-    let tree = it_stays t one new n p.0 stay.agree stay.readable in
-    let list : vec_list node_item new w ≡ n ∷ [] = list_is ∙ ap (λ ks. ks ++ n ∷ []) (no_trees (vec_list node_item mid v) room.stand) in
-    let blocks : row_blocks (t ∷ []) new (vec_list node_item new w) ≡ nb
-    = ap (row_blocks (t ∷ []) new) list ∙ append-nil (blocks_at t new n) ∙ tree.1 in
+    let stay = stay_all one new [] (wb ∷ []) nb frame (row_readable ts one ns placed.stand) (all_none nb) in
+    let trees = row_stays ts one new ns placed.stand stay.agree stay.readable in
+    let list : vec_list node_item new w ≡ ns = list_is ∙ ap (λ ks. ks ++ ns) (no_trees (vec_list node_item mid v) room.stand) in
+    let blocks : row_blocks ts new (vec_list node_item new w) ≡ nb = ap (row_blocks ts new) list ∙ trees.1 in
     record {
       held = held;
-      stand = subst (RowAt (t ∷ []) new) (sym list) (tree.0, tt);
-      apart = subst (λ bs. ArePairwiseApart (wb ∷ bs)) (sym blocks) (turned_one wb nb stay.apart, p.1);
+      stand = subst (RowAt ts new) (sym list) trees.0;
+      apart = subst (λ bs. ArePairwiseApart (wb ∷ bs)) (sym blocks) (turned_one wb nb stay.apart, placed.apart);
       frame = subst (λ bs. Frame old new [] (wb ∷ bs)) (sym blocks)
-          (frame_then old one new [] nb (wb ∷ nb) p.2 (frame_beside one new [] (wb ∷ []) nb frame));
-      lean = subst (AreLean new) (sym list) (it_stays_lean t one new n p.0 stay.agree p.3);
+          (frame_then old one new [] nb (wb ∷ nb) placed.frame (frame_beside one new [] (wb ∷ []) nb frame));
+      lean = subst (AreLean new) (sym list) (row_stays_lean ts one new ns placed.stand stay.agree placed.lean);
     }
   where
     no_trees : (ns : List Node) → RowAt [] mid ns → ns ≡ []
     no_trees [] at = refl
     no_trees (k ∷ ns) at = absurd at
 
--- A tree is placed, and appended to a list that is being built.
-module _ (ts : List Subtree) (t : Subtree) (old one two : Memory) (v : Vec Node) (n : Node) (built : IsRowBuilt ts old one v)
-    (placed : IsTreePlaced t one two n) where
-  stands : SubtreeAt t two n × ArePairwiseApart (blocks_at t two n) × Frame one two [] (blocks_at t two n) × AreLean two (n ∷ [])
-  stands = tree_placed t one two n placed
+-- A list stays where other blocks are placed.
+pub list_kept : {a c : Memory} {v : Vec Node} {blocks : List Block} → IsVecIn node_item a v → Frame a c [] blocks → IsVecIn node_item c v
+list_kept {a} {c} {v} {blocks} held frame =
+    list_held a c v held (stay_all a c [] blocks (v.raw.block ∷ []) frame (held.place.readable, tt) (tt, tt)).readable.0
 
-  pub row_held : IsVecIn node_item two v
-  row_held = list_held one two v built.held
-      (stay_all one two [] (blocks_at t two n) (v.raw.block ∷ []) stands.2 (built.held.place.readable, tt) (tt, tt)).readable.0
+-- Trees are placed, and appended to a list that is being built.
+module _ (ts us : List Subtree) (old one two : Memory) (v : Vec Node) (ks : List Node) (built : IsRowBuilt ts old one v)
+    (placed : AreGathered us one two ks) where
+  pub rows_held : IsVecIn node_item two v
+  rows_held = list_kept built.held placed.frame
 
-  pub row_more : (new : Memory) (w : Vec Node) → IsVecIn node_item new w
-      → vec_list node_item new w ≡ vec_list node_item two v ++ n ∷ []
-      → Frame two new (v.raw.block ∷ []) (w.raw.block ∷ []) → IsRowBuilt (ts ++ t ∷ []) old new w
-  row_more new w held list_is frame =
+  pub rows_more : (new : Memory) (w : Vec Node) → IsVecIn node_item new w → vec_list node_item new w ≡ vec_list node_item two v ++ ks
+      → Frame two new (v.raw.block ∷ []) (w.raw.block ∷ []) → IsRowBuilt (ts ++ us) old new w
+  rows_more new w held list_is frame =
       let vb = v.raw.block in
       let wb = w.raw.block in
       let ns = vec_list node_item one v in
       let eb = row_blocks ts one ns in
-      let nb = blocks_at t two n in
-      let own = stay_all one two [] nb (vb ∷ []) stands.2 (built.held.place.readable, tt) (tt, tt) in
+      let nb = row_blocks us two ks in
+      let own = stay_all one two [] nb (vb ∷ []) placed.frame (built.held.place.readable, tt) (tt, tt) in
       let both : Frame one new (vb ∷ []) (wb ∷ nb)
-      = frame_then one two new (vb ∷ []) (vb ∷ nb) (wb ∷ nb) (frame_behind one two nb (vb ∷ []) stands.2)
+      = frame_then one two new (vb ∷ []) (vb ∷ nb) (wb ∷ nb) (frame_behind one two nb (vb ∷ []) placed.frame)
       (frame_beside two new (vb ∷ []) (wb ∷ []) nb frame) in
       let rest = stay_all one new (vb ∷ []) (wb ∷ nb) eb both (row_readable ts one ns built.stand) (all_apart vb eb built.apart.0) in
-      let last = stay_all two new (vb ∷ []) (wb ∷ []) nb frame (it_readable t two n stands.0) (all_apart vb nb own.apart.0) in
+      let last = stay_all two new (vb ∷ []) (wb ∷ []) nb frame (row_readable us two ks placed.stand) (all_apart vb nb own.apart.0) in
       let trees = row_stays ts one new ns built.stand rest.agree rest.readable in
-      let tree = it_stays t two new n stands.0 last.agree last.readable in
-      let more = one_more ts t new ns n trees.0 tree.0 in
-      let list : vec_list node_item new w ≡ ns ++ n ∷ [] = list_is ∙ ap (λ ks. ks ++ n ∷ []) (list_same one two v own.agree.0) in
-      let blocks : row_blocks (ts ++ t ∷ []) new (vec_list node_item new w) ≡ eb ++ nb
-      = ap (row_blocks (ts ++ t ∷ []) new) list ∙ more.1 ∙ (λ i. trees.1 i ++ tree.1 i) in
+      let others = row_stays us two new ks placed.stand last.agree last.readable in
+      let more = rows_both ts us new ns ks trees.0 others.0 in
+      let list : vec_list node_item new w ≡ ns ++ ks = list_is ∙ ap (λ ls. ls ++ ks) (list_same one two v own.agree.0) in
+      let blocks : row_blocks (ts ++ us) new (vec_list node_item new w) ≡ eb ++ nb
+      = ap (row_blocks (ts ++ us) new) list ∙ more.1 ∙ (λ i. trees.1 i ++ others.1 i) in
       let each = (all_from_both eb (wb ∷ []) nb).0 rest.apart in
       record {
         held = held;
-        stand = subst (RowAt (ts ++ t ∷ []) new) (sym list) more.0;
+        stand = subst (RowAt (ts ++ us) new) (sym list) more.0;
         apart = subst (λ bs. ArePairwiseApart (wb ∷ bs)) (sym blocks) (
           apart_both wb.addr wb.size eb nb (turned_one wb eb each.0) (turned_one wb nb last.apart),
-          pairwise_both eb nb built.apart.1 stands.1 each.1,
+          pairwise_both eb nb built.apart.1 placed.apart each.1,
         );
         frame = subst (λ bs. Frame old new [] (wb ∷ bs)) (sym blocks) (frame_then old two new [] (vb ∷ (eb ++ nb)) (wb ∷ (eb ++ nb))
-            (frame_then old one two [] (vb ∷ eb) (vb ∷ (eb ++ nb)) built.frame (frame_behind one two nb (vb ∷ eb) stands.2))
+            (frame_then old one two [] (vb ∷ eb) (vb ∷ (eb ++ nb)) built.frame (frame_behind one two nb (vb ∷ eb) placed.frame))
             (frame_beside two new (vb ∷ []) (wb ∷ []) (eb ++ nb) frame));
-        lean = subst (AreLean new) (sym list) (lean_both new ns (n ∷ []) (row_stays_lean ts one new ns built.stand rest.agree built.lean)
-            (it_stays_lean t two new n stands.0 last.agree stands.3));
+        lean = subst (AreLean new) (sym list) (lean_both new ns ks (row_stays_lean ts one new ns built.stand rest.agree built.lean)
+            (row_stays_lean us two new ks placed.stand last.agree placed.lean));
       }
+
+-- ---- Trees of which the first are in a list
+
+pub read_none : {ts : List Subtree} {old new : Memory} {v : Vec Node} → IsRowBuilt ts old new v → IsRowRead ts old new v []
+read_none {ts} {new = new} built = record {
+  front = ts;
+  back = [];
+  all = sym (append-nil ts);
+  between = new;
+  built = built;
+  gathered = gathered_none new;
+}
+
+pub read_more : {ts : List Subtree} {old one two : Memory} {v : Vec Node} {ns : List Node} (t : Subtree) (n : Node)
+    → IsRowRead ts old one v ns → IsTreePlaced t one two n → IsRowRead (ts ++ t ∷ []) old two v (ns ++ n ∷ [])
+read_more t n read placed = record {
+  front = read.front;
+  back = read.back ++ t ∷ [];
+  all = ap (λ rs. rs ++ t ∷ []) read.all ∙ append_assoc read.front read.back (t ∷ []);
+  between = read.between;
+  built = read.built;
+  gathered = gathered_then read.gathered (gathered_one t placed);
+}
+
+pub read_frame : {ts : List Subtree} {old new : Memory} {v : Vec Node} {ns : List Node} → IsRowRead ts old new v ns → Frame old new [] []
+read_frame {old = old} {new} read = frame_then old read.between new [] [] [] (frame_forget old read.between [] _ read.built.frame)
+    (frame_forget read.between new [] _ read.gathered.frame)
+
+pub read_length : {ts : List Subtree} {old new : Memory} {v : Vec Node} {ns : List Node} → IsRowRead ts old new v ns
+    → length ts ≡ v.raw.len + length ns
+read_length {new = new} {v} {ns} read = omega (
+  arith,
+  ap length read.all,
+  length-append read.front read.back,
+  row_length read.front read.between _ read.built.stand ∙ list_len read.between v,
+  row_length read.back new ns read.gathered.stand,
+)
+
+-- all of them, where the list is empty
+pub read_all : {ts : List Subtree} {old new : Memory} {v : Vec Node} {ns : List Node} → IsRowRead ts old new v ns → v.raw.len ≡ 0
+    → AreGathered ts old new ns
+read_all {ts} {old} {new} {v} {ns} read none = subst (λ rs. AreGathered rs old new ns) (sym (read.all ∙ ap (λ rs. rs ++ read.back) first))
+    (gathered_then {ts = []} {us = read.back} {ns = []} {ks = ns} (record {
+      stand = tt;
+      apart = tt;
+      frame = frame_forget old read.between [] _ read.built.frame;
+      lean = lean_none read.between;
+    }) read.gathered)
+  where
+    empty : (rs : List Subtree) → length rs ≡ 0 → rs ≡ []
+    empty [] is = refl
+    empty (r ∷ rs) is = absurd (omega (arith, is))
+
+    first : read.front ≡ []
+    first = empty read.front (row_length read.front read.between _ read.built.stand ∙ list_len read.between v ∙ none)
 
 -- ---- Lists of expressions, and of statements
 
@@ -174,9 +261,9 @@ stmts_built ss old new v b =
     }
 
 -- one more, in the lists of the grammar
-pub exprs_more : (es : Exprs) (e : Expr) {old new : Memory} {v : Vec Node} → IsRowBuilt (expr_row es ++ OfExpr e ∷ []) old new v
-    → IsRowBuilt (expr_row (with_expr es e)) old new v
-exprs_more es e {old} {new} {v} = subst (λ ts. IsRowBuilt ts old new v) (sym (is es))
+pub exprs_more : (es : Exprs) (e : Expr) {old new : Memory} {v : Vec Node} {ns : List Node} → IsRowRead (expr_row es ++ OfExpr e ∷ []) old new v ns
+    → IsRowRead (expr_row (with_expr es e)) old new v ns
+exprs_more es e {old} {new} {v} {ns} = subst (λ ts. IsRowRead ts old new v ns) (sym (is es))
   where
     is : (es : Exprs) → expr_row (with_expr es e) ≡ expr_row es ++ OfExpr e ∷ []
     is NoExprs = refl

@@ -63,3 +63,8 @@ node_cost = 359
 
 abbrev pub credit : Vec Node → ℕ
 credit v = credit_of 88 v.raw.len v.raw.cap
+
+-- Nodes are appended to a list, which may be replaced by a longer one.
+abbrev pub SpendsOnMore : Layouts → (bytes before : ℕ) → View → View → Result (Vec Node) AllocError → Type 0
+SpendsOnMore layouts bytes before old new (Ok v) = Spends layouts bytes before (credit v) old new None
+SpendsOnMore layouts bytes before old new (Err e) = Spends layouts bytes before 0 old new (Some e)

@@ -1,5 +1,5 @@
 -- What a node represents, an expression or a statement, and lists of such nodes.
-use Rattle.std.specs.Prelude.{ℕ, ◌+◌, ◌<◌, Bool, true, false, List, [], ◌∷◌, ◌++◌}
+use Rattle.std.specs.Prelude.{◌≡◌, ℕ, ◌+◌, ◌<◌, Bool, true, false, List, [], ◌∷◌, ◌++◌}
 use Rattle.arena_chunks.specs.Memory.{Memory}
 use Rattle.arena_chunks.specs.Frame.{Frame, ArePairwiseApart}
 use Rattle.arena_store.specs.declared.block.Block.{Block}
@@ -118,3 +118,19 @@ pub record IsRowBuilt (ts : List Subtree) (old new : Memory) (v : Vec Node) : Ty
   pub apart : ArePairwiseApart (v.raw.block ∷ row_blocks ts new (vec_list node_item new v))
   pub frame : Frame old new [] (v.raw.block ∷ row_blocks ts new (vec_list node_item new v))
   pub lean : AreLean new (vec_list node_item new v)
+
+-- Trees that were placed one after another, in an arena that was this one before, and whose nodes are in no list yet.
+pub record AreGathered (ts : List Subtree) (old new : Memory) (ns : List Node) : Type 0 where
+  pub stand : RowAt ts new ns
+  pub apart : ArePairwiseApart (row_blocks ts new ns)
+  pub frame : Frame old new [] (row_blocks ts new ns)
+  pub lean : AreLean new ns
+
+-- The nodes of the first of them are in a list, and those of the others aren't yet.
+pub record IsRowRead (ts : List Subtree) (old new : Memory) (v : Vec Node) (ns : List Node) : Type 0 where
+  pub front : List Subtree
+  pub back : List Subtree
+  pub all : ts ≡ front ++ back
+  pub between : Memory
+  pub built : IsRowBuilt front old between v
+  pub gathered : AreGathered back between new ns

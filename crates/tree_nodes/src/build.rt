@@ -1,5 +1,5 @@
 // Nodes, and lists of nodes that are being built.
-ghost use Rattle.std.specs.Prelude.{◌≡◌, ◌+◌, ◌^◌, ◌≤◌, List, [], ◌∷◌, ◌++◌, IfOk, OnOk, OnErr};
+ghost use Rattle.std.specs.Prelude.{◌≡◌, ℕ, ◌+◌, ◌*◌, ◌^◌, ◌≤◌, List, [], ◌∷◌, ◌++◌, length, IfOk, OnOk, OnErr};
 ghost use Rattle.arena_chunks.specs.Memory.{Memory};
 ghost use Rattle.arena_chunks.specs.Frame.{Frame};
 ghost use Rattle.arena_vec.specs.Changes.{Grows};
@@ -7,10 +7,10 @@ ghost use Rattle.arena_vec.specs.Growth.{amortised_growth};
 ghost use Rattle.arena_vec.specs.Vecs.{IsVecIn, vec_list};
 ghost use Rattle.tree_rules.specs.Trees.{Expr};
 ghost use Rattle.tree_nodes.specs.TreesAt.{node_item, kids_of, no_kids, IsPlaced};
-ghost use Rattle.tree_nodes.specs.Subtrees.{Subtree, OfExpr, IsTreePlaced, IsRowBuilt};
+ghost use Rattle.tree_nodes.specs.Subtrees.{Subtree, OfExpr, IsTreePlaced, IsRowBuilt, AreGathered, IsRowRead};
 ghost use Rattle.tree_nodes.specs.NodeForms.{number_node, no_text};
-ghost use Rattle.tree_nodes.specs.Layouts.{ListOf, LongerList, IsDoubled};
-ghost use Rattle.tree_nodes.specs.Spending.{Spends, error_of, node_cost, credit};
+ghost use Rattle.tree_nodes.specs.Layouts.{ListOf, LongerList, ListFor, IsDoubled};
+ghost use Rattle.tree_nodes.specs.Spending.{Spends, SpendsOnMore, error_of, node_cost, credit};
 
 use crate::clone_list::roomy;
 use crate::node::{Kind, Node};
@@ -103,10 +103,10 @@ pub fn push_node<C: ChunkSource>(
     ensures row { (ts : List Subtree) (t : Subtree) (old one : Memory) → IsRowBuilt ts old one list.old
         → IsTreePlaced t one a.old.memory node.now
         → OnOk result (IsRowBuilt (ts ++ t ∷ []) old a.new.memory list.new) }
-    ensures spends { Spends (LongerList list.old.raw.len list.old.raw.cap) node_cost (credit list.old)
+    ensures spends { Spends (LongerList list.old.raw.len list.old.raw.cap 1) node_cost (credit list.old)
         (credit list.new) a.old a.new (error_of result) }
     ensures len { OnOk result (list.new.raw.len ≡ list.old.raw.len + 1) }
-    ensures cap { IsDoubled list.old.raw.cap → OnOk result (IsDoubled list.new.raw.cap) }
+    ensures cap { IsDoubled 1 list.old.raw.cap → OnOk result (IsDoubled 1 list.new.raw.cap) }
     ensures err { OnErr result ((list.new ≡ list.old) × (a.new.memory ≡ a.old.memory)) }
     ensures frame { Frame a.old.memory a.new.memory (list.old.raw.block ∷ []) (list.new.raw.block ∷ []) }
 {
@@ -136,25 +136,83 @@ pub fn wrap<C: ChunkSource>(a: &mut Allocator<C>, kind: Kind, node: &mut Node) -
     Ok(())
 }
 
-/// A list of this node, with room for one more. Asks for a list of two nodes.
-///
-/// # Errors
-///
-/// As `roomy`.
-#[inline(always)]
-pub fn first_of<C: ChunkSource>(a: &mut Allocator<C>, node: &Node) -> Grown<Vec<Node>>
-    ensures tree { (e : Expr) (old : Memory) → IsPlaced e old a.old.memory node.now
-        → IfOk result (IsRowBuilt (OfExpr e ∷ []) old a.new.memory) }
-    ensures spends { Spends (ListOf 2) node_cost 0 0 a.old a.new (error_of result) }
-    ensures len { IfOk result (λ v. v.raw.len ≡ 1) }
-    ensures cap { IfOk result (λ v. v.raw.cap ≡ 2) }
+// A list of these nodes, with this room.
+#[inline(never)]
+fn list_of<C: ChunkSource>(a: &mut Allocator<C>, nodes: &[Node], room: u32) -> Grown<Vec<Node>>
+    requires { length nodes.now ≤ room }
+    ensures row { (ts : List Subtree) (old : Memory) → AreGathered ts old a.old.memory nodes.now
+        → IfOk result (IsRowBuilt ts old a.new.memory) }
+    ensures held { IfOk result (IsVecIn node_item a.new.memory) }
+    ensures spends { Spends (ListOf room) (128 * room) 0 0 a.old a.new (error_of result) }
+    ensures len { IfOk result (λ v. v.raw.len ≡ length nodes.now) }
+    ensures cap { IfOk result (λ v. v.raw.cap ≡ room) }
 {
     growth_rule();
-    let mut list = roomy(a, 2)?;
-    match push(a, &mut list, node) {
+    let mut list = roomy(a, room)?;
+    match list.extend_from_slice(a, nodes) {
         Ok(()) => Ok(list),
         Err(_) => unreachable!(),
     }
+}
+
+// A list with these nodes behind its own: the list itself where it has room, or a longer one.
+#[cold]
+#[inline(never)]
+fn longer<C: ChunkSource>(a: &mut Allocator<C>, list: Vec<Node>, nodes: &[Node]) -> Grown<Vec<Node>>
+    requires held { IsVecIn node_item a.old.memory list }
+    requires some { 1 ≤ length nodes.now }
+    requires few { list.raw.len + length nodes.now ≤ 2 ^ 24 }
+    ensures row { (ts : List Subtree) (old : Memory) → IsRowRead ts old a.old.memory list nodes.now
+        → IfOk result (IsRowBuilt ts old a.new.memory) }
+    ensures held { IfOk result (IsVecIn node_item a.new.memory) }
+    ensures spends { SpendsOnMore (LongerList list.raw.len list.raw.cap (length nodes.now)) (node_cost * length nodes.now)
+        (credit list) a.old a.new result }
+    ensures len { IfOk result (λ v. v.raw.len ≡ list.raw.len + length nodes.now) }
+    ensures cap { (power : ℕ) → length nodes.now ≡ 2 ^ power → IsDoubled (length nodes.now) list.raw.cap
+        → IfOk result (λ v. IsDoubled (length nodes.now) v.raw.cap) }
+{
+    growth_rule();
+    growth_costs();
+    vector_costs::<Node, ()>();
+    // Provides that the least alignment is 1.
+    a.known();
+    let mut all = list;
+    match all.extend_from_slice(a, nodes) {
+        Ok(()) => Ok(all),
+        Err(e) => Err(e),
+    }
+}
+
+/// A list with these nodes behind its own. A list with no storage is replaced by one with this room, and another without
+/// room for them by the growth rule of vectors. Costs at most 359 bytes a node besides what the list saved.
+///
+/// # Errors
+///
+/// As `push_node`.
+#[inline(always)]
+pub fn with_more<C: ChunkSource>(
+    a: &mut Allocator<C>,
+    list: Vec<Node>,
+    nodes: &[Node],
+    room: u32,
+) -> Grown<Vec<Node>>
+    requires held { IsVecIn node_item a.old.memory list }
+    requires some { 1 ≤ length nodes.now }
+    requires few { list.raw.len + length nodes.now ≤ 2 ^ 24 }
+    requires room { (length nodes.now ≤ room) × (room ≤ 2 * length nodes.now) }
+    ensures row { (ts : List Subtree) (old : Memory) → IsRowRead ts old a.old.memory list nodes.now
+        → IfOk result (IsRowBuilt ts old a.new.memory) }
+    ensures held { IfOk result (IsVecIn node_item a.new.memory) }
+    ensures spends { SpendsOnMore (ListFor list.raw.len list.raw.cap (length nodes.now) room) (node_cost * length nodes.now)
+        (credit list) a.old a.new result }
+    ensures len { IfOk result (λ v. v.raw.len ≡ list.raw.len + length nodes.now) }
+    ensures cap { (some many : ℕ) → length nodes.now ≡ 2 ^ some → room ≡ 2 ^ many → IsDoubled (length nodes.now) list.raw.cap
+        → IfOk result (λ v. IsDoubled (length nodes.now) v.raw.cap) }
+{
+    if list.capacity() == 0 {
+        return list_of(a, nodes, room);
+    }
+    longer(a, list, nodes)
 }
 
 /// The node of a definition: its name, and its value as the only child.

@@ -9,7 +9,7 @@ mod name;
 mod node;
 mod walk;
 
-pub use build::{first_of, let_node, named, number, push_node, with_kids, wrap};
+pub use build::{let_node, named, number, push_node, with_kids, with_more, wrap};
 pub use clone_list::{fill, roomy};
 pub use name::{clone_text, name_node, place_name};
 pub use node::{Kind, Node};

@@ -1,4 +1,4 @@
-use Rattle.std.proofs.Common.{rules, ◌≡◌, ◌-◌, ◌*◌, ◌≤◌, ◌∙◌, ap, sym, length, inl, inr, add-one, arith}
+use Rattle.std.proofs.Common.{rules, ◌≡◌, ◌-◌, ◌*◌, ◌≤◌, ◌∙◌, ap, sym, length, inl, inr, add-one, arith, [], ◌∷◌}
 use Rattle.arena_vec.specs.Vecs.{vec_list}
 use Rattle.arena_tree.specs.TreesAt.{node_item}
 use Rattle.arena_tree.specs.Subtrees.{has_kids, HasTree, HasRow}
@@ -7,7 +7,7 @@ use Rattle.tree_nodes.proofs.SpendingLemmas.{frees, err_spends, asks_of, asks_an
 use Rattle.arena_tree.proofs.CopyLayoutLemmas.{kid_copy, kids_copy, text_copy}
 use Rattle.tree_nodes.proofs.BlockCostLemmas.{spends_same}
 use Rattle.tree_nodes.proofs.SubtreeLemmas.{kids_it, kids_at, row_length}
-use Rattle.tree_nodes.proofs.RowLemmas.{row_held, kid_of, kid_can, row_whole}
+use Rattle.tree_nodes.proofs.RowLemmas.{rows_held, gathered_one, kid_of, kid_can, row_whole}
 use Rattle.arena_tree.proofs.CloneLemmas.{more_kinds, number_copied, name_copied, let_copied, kids_copied, text_of, row_at, has_row}
 use Rattle.arena_tree.proofs.CloneCostLemmas.{forget, row_room, row_kid, part_spends, both_spend}
 use Rattle.arena_tree.proofs.clone.+clone.Goals as goal
@@ -133,7 +133,7 @@ pub clone_row-fill-requires-clause-held : goal.clone_row-fill-requires-clause-he
 clone_row-fill-requires-clause-held g t c =
     let h = c.requires in
     let k = kid_of h.trees _ _ c.loop-i.i _ h.stand c.get-node.ensures in
-    row_held _ k.tree _ _ _ _ _ (c.loop-i.invariant.built h.trees h.stand) (c.in_ok-copy.ensures.tree k.tree k.stands)
+    rows_held _ (k.tree ∷ []) _ _ _ _ _ (c.loop-i.invariant.built h.trees h.stand) (gathered_one k.tree (c.in_ok-copy.ensures.tree k.tree k.stands))
 
 pub clone_row-loop-i-preserved : goal.clone_row-loop-i-preserved
 clone_row-loop-i-preserved g t c =

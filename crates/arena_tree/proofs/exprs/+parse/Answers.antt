@@ -1,15 +1,19 @@
-use Rattle.std.proofs.Common.{ℕ, ◌+◌, refl, inr, arith}
+use Rattle.std.proofs.Common.{ℕ, ◌≡◌, ◌+◌, ap, sym, subst, refl, inl, inr, length, length-set, set, arith}
+use Rattle.std.proofs.lemmas.List.{get_or-set_same}
 use Rattle.std.specs.Prelude.{slice_range}
+use Rattle.arena_store.specs.declared.block.Block.{Block}
 use Rattle.tree_rules.specs.Grammar.{ANumber, AName, InParens, Negated, OneFactor, Times, OneTerm, factor_tree, factors_tree, factor_trees}
 use Rattle.arena_tree.specs.Subtrees.{OfExpr}
-use Rattle.arena_tree.specs.Parts.{NoFactorIn, NoTermsIn}
-use Rattle.arena_tree.specs.Layouts.{ATerm, AFactor, ANegated}
+use Rattle.arena_tree.specs.Parts.{NoFactorIn, NoTermsIn, signed_tree}
+use Rattle.arena_tree.specs.Layouts.{ATerm, AFactor, ANegated, IsDoubled}
+use Rattle.arena_tree.specs.TreesAt.{IsPlaced}
 use Rattle.tree_nodes.proofs.BuildLemmas.{prod_placed, number_placed}
-use Rattle.tree_nodes.proofs.RowLemmas.{row_held, exprs_built, exprs_more}
+use Rattle.tree_nodes.proofs.RowLemmas.{row_none, read_none, read_more, read_frame, read_length, list_kept, exprs_built, exprs_more}
 use Rattle.tree_nodes.proofs.SpendingLemmas.{spends_then, spends_more, asks_of, asks_any, frees, frees_then, range_length}
-use Rattle.arena_tree.proofs.AskedLemmas.{asked_name, asked_list, asked_longer}
+use Rattle.arena_tree.proofs.AskedLemmas.{asked_name, asked_list, asked_few}
 use Rattle.arena_tree.proofs.PartCostLemmas.{kid_read, kid_negated, stops_then, stops_more, arena_stops, text_stops, err_up_to, err_text}
 use Rattle.arena_tree.proofs.PartLemmas.{reads_then, reads_in, reads_leaf, reads_plain, reads_star, reads_sign, reads_terms, refused_then, in_paren, in_sign, unsigned, opens_paren, closes_paren, opens_sign, deep_paren, deep_sign, joined, terms_more, terms_placed}
+use Rattle.arena_tree.proofs.GatherLemmas.{first_factor, first_term, row_next, row_last, row_again, length_next, length_first}
 use Rattle.arena_tree.proofs.exprs.+parse.Goals as goal
 
 pub factor-returns-in-Some-Number-clause-tree : goal.factor-returns-in-Some-Number-clause-tree
@@ -55,124 +59,6 @@ paren-returns-clause-tree g t c =
 
 -- ---- Terms
 
-pub term-returns-in_default-clause-tree : goal.term-returns-in_default-clause-tree
-term-returns-in_default-clause-tree g t c =
-    let k = c.in_ok-end.ensures.tree in
-    record { part = OneFactor k.part; read = reads_plain c.requires.nest k.read; stopped = c.in_default.ensures.none; placed = k.placed }
-
-pub term-loop-stop-init : goal.term-loop-stop-init
-term-loop-stop-init g t c =
-    let k = c.in_ok-end.ensures in
-    let l = c.in_ok-list.ensures in
-    let star = c.in-Some.ensures.some in
-    record {
-      few = omega arith;
-      doubled = inr (1, l.cap);
-      spends = asks_any (spends_then k.spends l.spends (frees k.tree.placed.frame) (omega arith) (omega arith) (omega arith));
-      read = record {
-        part = OneFactor k.tree.part;
-        read = reads_then (reads_plain c.requires.nest k.tree.read) (reads_star c.requires.nest star);
-        built = l.tree (factor_tree k.tree.part) _ k.tree.placed;
-      };
-    }
-
-pub term-loop-stop-preserved : goal.term-loop-stop-preserved
-term-loop-stop-preserved g t c =
-    let i = c.loop-stop.invariant in
-    let k = c.in_ok-stop.ensures in
-    let put = c.in_ok-push_node.ensures in
-    let star = c.in-Some-star_at.ensures.some in
-    let read = kid_read _ i.read.later k.tree.later i.spends k.spends (frees i.read.built.frame) in
-    record {
-      few = omega arith;
-      doubled = put.cap i.doubled;
-      spends = asks_any
-          (spends_then read put.spends (frees_then i.read.built.frame k.tree.placed.frame) (omega arith) (omega arith) (omega arith));
-      read = record {
-        part = Times i.read.part k.tree.part;
-        read = reads_then i.read.read (reads_then (reads_plain c.requires.nest k.tree.read) (reads_star c.requires.nest star));
-        built = exprs_more (factor_trees i.read.part) (factor_tree k.tree.part) (put.row _ (OfExpr _) _ _ i.read.built k.tree.placed);
-      };
-    }
-
-pub term-returns-in-None-clause-tree : goal.term-returns-in-None-clause-tree
-term-returns-in-None-clause-tree g t c =
-    let ks = c.loop-stop.invariant.read in
-    let k = c.in_ok-stop.ensures.tree in
-    let node = c.with_kids.ensures in
-    record {
-      part = Times ks.part k.part;
-      read = reads_then ks.read (reads_plain c.requires.nest k.read);
-      stopped = c.in-None.ensures.none;
-      placed = prod_placed _ _ _ _ _ (exprs_built _ _ _ _ (exprs_more (factor_trees ks.part) (factor_tree k.part)
-          (c.in_ok-push_node.ensures.row _ (OfExpr _) _ _ ks.built k.placed))) node.kind node.kids node.rest;
-    }
-
--- ---- Expressions
-
-pub expr-returns-in_default-clause-tree : goal.expr-returns-in_default-clause-tree
-expr-returns-in_default-clause-tree g t c =
-    let k = c.in_ok-end.ensures.tree in
-    record { part = OneTerm k.part; read = k.read; stopped = (k.stopped, c.in_default.ensures.none); placed = k.placed }
-
-pub expr-loop-stop-init : goal.expr-loop-stop-init
-expr-loop-stop-init g t c =
-    let k = c.in_ok-end.ensures in
-    let l = c.in_ok-list.ensures in
-    let sign = c.in-Some.ensures.some in
-    record {
-      few = omega arith;
-      doubled = inr (1, l.cap);
-      spends = asks_any (spends_then k.spends l.spends (frees k.tree.placed.frame) (omega arith) (omega arith) (omega arith));
-      read = record {
-        part = OneTerm k.tree.part;
-        read = reads_then k.tree.read (reads_sign c.requires.nest c.in-Some.minus sign);
-        built = l.tree (factors_tree k.tree.part) _ k.tree.placed;
-      };
-    }
-
-pub expr-push_node-requires-clause-held : goal.expr-push_node-requires-clause-held
-expr-push_node-requires-clause-held g t c =
-    row_held _ (OfExpr _) _ _ _ _ _ c.loop-stop.invariant.read.built (c.in_ok-sign.ensures.tree _ _ c.in_ok-stop.ensures.tree.placed)
-
-pub expr-loop-stop-preserved : goal.expr-loop-stop-preserved
-expr-loop-stop-preserved g t c =
-    let i = c.loop-stop.invariant in
-    let k = c.in_ok-stop.ensures in
-    let put = c.in_ok-push_node.ensures in
-    let sign = c.in-Some-sign_at.ensures.some in
-    let minus = c.loop-stop.minus in
-    let read = kid_read _ i.read.later k.tree.later i.spends k.spends (frees i.read.built.frame) in
-    let placed = c.in_ok-sign.ensures.tree (factors_tree k.tree.part) c.loop-stop.a.memory k.tree.placed in
-    let negated = kid_negated _ read c.in_ok-sign.ensures.spends (frees_then i.read.built.frame k.tree.placed.frame) in
-    record {
-      few = omega arith;
-      doubled = put.cap i.doubled;
-      spends = asks_any
-          (spends_then negated put.spends (frees_then i.read.built.frame placed.frame) (omega arith) (omega arith) (omega arith));
-      read = record {
-        part = joined minus i.read.part k.tree.part;
-        read = reads_then (reads_terms minus i.read.part k.tree.part i.read.read k.tree.read) (reads_sign c.requires.nest c.in-Some-sign_at.less sign);
-        built = terms_more minus i.read.part k.tree.part (put.row _ (OfExpr _) _ _ i.read.built placed);
-      };
-    }
-
-pub expr-returns-in-None-clause-tree : goal.expr-returns-in-None-clause-tree
-expr-returns-in-None-clause-tree g t c =
-    let ks = c.loop-stop.invariant.read in
-    let k = c.in_ok-stop.ensures.tree in
-    let minus = c.loop-stop.minus in
-    let placed = c.in_ok-sign.ensures.tree (factors_tree k.part) c.loop-stop.a.memory k.placed in
-    record {
-      part = joined minus ks.part k.part;
-      read = reads_terms minus ks.part k.part ks.read k.read;
-      stopped = (k.stopped, c.in-None.ensures.none);
-      placed = terms_placed minus ks.part k.part (terms_more minus ks.part k.part (c.in_ok-push_node.ensures.row _ (OfExpr _) _ _ ks.built
-          placed)) c.with_kids.ensures.kind c.with_kids.ensures.kids c.with_kids.ensures.rest;
-    }
-
--- ---- What it costs
-
 pub factor-returns-in_ok-name_node-in-Some-Word-clause-spends : goal.factor-returns-in_ok-name_node-in-Some-Word-clause-spends
 factor-returns-in_ok-name_node-in-Some-Word-clause-spends g t c =
     let word = rw c.in-Some-Word.field-0-is at c.in-Some-Word.ensures.some in
@@ -202,7 +88,7 @@ minus-returns-in_err-negate-clause-spends g t c =
     let minus = c.requires.start in
     let k = c.in_ok-end.ensures in
     let sign = opens_sign c.requires.nest c.if-deep-eq-MOST_OPEN.false minus in
-    err_up_to _ _ _ _ c.from_residual-in_err-negate.ensures (arena_stops _ (asks_of (asked_list ANegated sign 0 (omega arith))
+    err_up_to _ _ _ _ c.from_residual-in_err-negate.ensures (arena_stops _ (asks_of (asked_list ANegated sign 1 (inl refl))
     (spends_then k.spends c.in_err-negate.ensures.spends (frees k.tree.placed.frame) (omega arith) (omega arith) (omega arith))))
 
 pub paren-returns-clause-spends : goal.paren-returns-clause-spends
@@ -215,89 +101,6 @@ pub paren-returns-in_err-end-clause-spends : goal.paren-returns-in_err-end-claus
 paren-returns-in_err-end-clause-spends g t c =
     let paren = c.requires.start in
     err_up_to _ _ _ _ c.from_residual.ensures (stops_more _ c.in_err-end.ensures.spends (omega arith))
-
-pub term-returns-in_err-list-clause-spends : goal.term-returns-in_err-list-clause-spends
-term-returns-in_err-list-clause-spends g t c =
-    let k = c.in_ok-end.ensures in
-    let star = c.in-Some.ensures.some in
-    let read = reads_then (reads_plain c.requires.nest k.tree.read) (reads_star c.requires.nest star) in
-    err_up_to _ _ _ _ c.from_residual-in_err-list.ensures
-    (arena_stops _ (asks_of (asked_list (AFactor (OneFactor k.tree.part)) read 1 (omega arith))
-    (spends_then k.spends c.in_err-list.ensures.spends (frees k.tree.placed.frame) (omega arith) (omega arith) (omega arith))))
-
-pub term-returns-in_err-stop-clause-spends : goal.term-returns-in_err-stop-clause-spends
-term-returns-in_err-stop-clause-spends g t c =
-    let i = c.loop-stop.invariant in
-    err_up_to _ _ _ _ c.from_residual-in_err-stop.ensures
-    (stops_then _ i.spends c.in_err-stop.ensures.spends (frees i.read.built.frame) (omega arith) (omega arith))
-
-pub term-returns-in_err-push_node-clause-spends : goal.term-returns-in_err-push_node-clause-spends
-term-returns-in_err-push_node-clause-spends g t c =
-    let i = c.loop-stop.invariant in
-    let k = c.in_ok-stop.ensures in
-    let read = kid_read _ i.read.later k.tree.later i.spends k.spends (frees i.read.built.frame) in
-    err_up_to _ _ _ _ c.from_residual-in_err-push_node.ensures
-    (arena_stops _ (asks_of (asked_longer (AFactor i.read.part) i.read.read i.read.built i.doubled)
-    (spends_then read c.in_err-push_node.ensures.spends (frees_then i.read.built.frame k.tree.placed.frame) (omega arith) (omega arith)
-    (omega arith))))
-
-pub term-returns-in-None-clause-spends : goal.term-returns-in-None-clause-spends
-term-returns-in-None-clause-spends g t c =
-    let i = c.loop-stop.invariant in
-    let k = c.in_ok-stop.ensures in
-    let read = kid_read _ i.read.later k.tree.later i.spends k.spends (frees i.read.built.frame) in
-    asks_any (spends_then read c.in_ok-push_node.ensures.spends (frees_then i.read.built.frame k.tree.placed.frame) (omega arith)
-    (omega arith) (omega arith))
-
-pub expr-returns-in_err-list-clause-spends : goal.expr-returns-in_err-list-clause-spends
-expr-returns-in_err-list-clause-spends g t c =
-    let k = c.in_ok-end.ensures in
-    let sign = c.in-Some.ensures.some in
-    let minus = c.in-Some.minus in
-    let read = reads_then k.tree.read (reads_sign c.requires.nest minus sign) in
-    err_up_to _ _ _ _ c.from_residual-in_err-list.ensures
-    (arena_stops _ (asks_of (asked_list (ATerm (OneTerm k.tree.part) minus) read 1 (omega arith))
-    (spends_then k.spends c.in_err-list.ensures.spends (frees k.tree.placed.frame) (omega arith) (omega arith) (omega arith))))
-
-pub expr-returns-in_err-stop-clause-spends : goal.expr-returns-in_err-stop-clause-spends
-expr-returns-in_err-stop-clause-spends g t c =
-    let i = c.loop-stop.invariant in
-    err_up_to _ _ _ _ c.from_residual-in_err-stop.ensures
-    (stops_then _ i.spends c.in_err-stop.ensures.spends (frees i.read.built.frame) (omega arith) (omega arith))
-
-pub expr-returns-in_err-sign-clause-spends : goal.expr-returns-in_err-sign-clause-spends
-expr-returns-in_err-sign-clause-spends g t c =
-    let i = c.loop-stop.invariant in
-    let k = c.in_ok-stop.ensures in
-    let read = kid_read _ i.read.later k.tree.later i.spends k.spends (frees i.read.built.frame) in
-    err_up_to _ _ _ _ c.from_residual-in_err-sign.ensures
-    (arena_stops _ (asks_of (asked_list (ATerm i.read.part c.loop-stop.minus) i.read.read 0 (omega arith))
-    (spends_then read c.in_err-sign.ensures.spends (frees_then i.read.built.frame k.tree.placed.frame) (omega arith) (omega arith)
-    (omega arith))))
-
-pub expr-returns-in_err-push_node-clause-spends : goal.expr-returns-in_err-push_node-clause-spends
-expr-returns-in_err-push_node-clause-spends g t c =
-    let i = c.loop-stop.invariant in
-    let k = c.in_ok-stop.ensures in
-    let placed = c.in_ok-sign.ensures.tree (factors_tree k.tree.part) c.loop-stop.a.memory k.tree.placed in
-    let read = kid_read _ i.read.later k.tree.later i.spends k.spends (frees i.read.built.frame) in
-    let negated = kid_negated _ read c.in_ok-sign.ensures.spends (frees_then i.read.built.frame k.tree.placed.frame) in
-    err_up_to _ _ _ _ c.from_residual-in_err-push_node.ensures
-    (arena_stops _ (asks_of (asked_longer (ATerm i.read.part c.loop-stop.minus) i.read.read i.read.built i.doubled)
-    (spends_then negated c.in_err-push_node.ensures.spends (frees_then i.read.built.frame placed.frame) (omega arith) (omega arith)
-    (omega arith))))
-
-pub expr-returns-in-None-clause-spends : goal.expr-returns-in-None-clause-spends
-expr-returns-in-None-clause-spends g t c =
-    let i = c.loop-stop.invariant in
-    let k = c.in_ok-stop.ensures in
-    let placed = c.in_ok-sign.ensures.tree (factors_tree k.tree.part) c.loop-stop.a.memory k.tree.placed in
-    let read = kid_read _ i.read.later k.tree.later i.spends k.spends (frees i.read.built.frame) in
-    let negated = kid_negated _ read c.in_ok-sign.ensures.spends (frees_then i.read.built.frame k.tree.placed.frame) in
-    asks_any (spends_then negated c.in_ok-push_node.ensures.spends (frees_then i.read.built.frame placed.frame) (omega arith) (omega arith)
-    (omega arith))
-
--- ---- Where the text is refused
 
 pub minus-returns-then-deep-eq-MOST_OPEN-clause-text : goal.minus-returns-then-deep-eq-MOST_OPEN-clause-text
 minus-returns-then-deep-eq-MOST_OPEN-clause-text g t c = deep_sign c.requires.nest c.if-deep-eq-MOST_OPEN.true c.requires.start
@@ -334,8 +137,387 @@ term-returns-in_err-end-clause-text g t c =
     err_text ℕ (NoFactorIn c.args.deep c.args.src.now c.args.at) (NoTermsIn c.args.deep c.args.src.now c.args.at) _ _ c.from_residual.ensures
     (λ no o. no (unsigned o)) c.in_err-end.ensures.text
 
-pub term-returns-in_err-stop-clause-text : goal.term-returns-in_err-stop-clause-text
-term-returns-in_err-stop-clause-text g t c =
-    err_text ℕ (NoFactorIn c.args.deep c.args.src.now c.loop-stop.here) (NoTermsIn c.args.deep c.args.src.now c.args.at) _ _
-    c.from_residual-in_err-stop.ensures (λ no. refused_then c.loop-stop.invariant.read.read (λ o. no (unsigned o)))
-    c.in_err-stop.ensures.text
+-- ---- Terms
+
+pub term-returns-in-None-clause-tree : goal.term-returns-in-None-clause-tree
+term-returns-in-None-clause-tree g t c =
+    let k = c.in_ok-end.ensures.tree in
+    record { part = OneFactor k.part; read = reads_plain c.requires.nest k.read; stopped = c.in-None.ensures.none; placed = k.placed }
+
+pub term-returns-in-Some-clause-tree : goal.term-returns-in-Some-clause-tree
+term-returns-in-Some-clause-tree g t c =
+    let k = c.in_ok-end.ensures in
+    c.factors.ensures.tree c.args.at c.args.a.now (first_factor c.requires.nest k.spends k.tree c.in-Some.ensures.some)
+
+pub term-returns-in-Some-clause-spends : goal.term-returns-in-Some-clause-spends
+term-returns-in-Some-clause-spends g t c =
+    let k = c.in_ok-end.ensures in
+    c.factors.ensures.spends c.args.at c.args.a.now (first_factor c.requires.nest k.spends k.tree c.in-Some.ensures.some)
+
+pub term-returns-in-Some-clause-text : goal.term-returns-in-Some-clause-text
+term-returns-in-Some-clause-text g t c =
+    let k = c.in_ok-end.ensures in
+    c.factors.ensures.text c.args.at c.args.a.now (first_factor c.requires.nest k.spends k.tree c.in-Some.ensures.some)
+
+pub factors-loop-stop-init : goal.factors-loop-stop-init
+factors-loop-stop-init g t c =
+    let list = c.new_in-list.ensures in
+    record {
+      within = (omega arith, c.requires.within);
+      few = (omega arith, omega (arith, list.len));
+      nodes = refl;
+      held = list.held c.args.a.now.memory;
+      doubled = inl list.cap;
+      read = λ from old first. record {
+        read = record {
+          part = OneFactor first.part;
+          read = first.read;
+          row = read_more (OfExpr (factor_tree first.part)) c.args.node.now (read_none (row_none old.memory c.new_in-list.result
+              (list.held old.memory) (list.list old.memory) (ap (λ (b : Block). b.size) list.block))) first.placed;
+        };
+        few = omega (arith, first.long, list.len);
+        spends = asks_any (spends_more first.spends (omega arith) (omega (arith, list.len)));
+      };
+    }
+
+pub factors-returns-in_err-stop-clause-spends : goal.factors-returns-in_err-stop-clause-spends
+factors-returns-in_err-stop-clause-spends g t c = λ from old first.
+    let r = c.loop-stop.invariant.read from old first in
+    err_up_to _ _ _ _ c.from_residual.ensures (stops_then _ r.spends c.in_err-stop.ensures.spends (read_frame r.read.row)
+    (omega (arith, r.read.within)) (omega (arith, r.read.within, r.read.later)))
+
+pub factors-returns-in_err-stop-clause-text : goal.factors-returns-in_err-stop-clause-text
+factors-returns-in_err-stop-clause-text g t c = λ from old first.
+    err_text ℕ (NoFactorIn c.args.deep c.args.src.now c.loop-stop.here) (NoTermsIn c.args.deep c.args.src.now from) _ _ c.from_residual.ensures
+    (λ no. refused_then (c.loop-stop.invariant.read from old first).read.read (λ o. no (unsigned o))) c.in_err-stop.ensures.text
+
+pub factors-returns-in_err-all-clause-spends : goal.factors-returns-in_err-all-clause-spends
+factors-returns-in_err-all-clause-spends g t c = λ from old first.
+    let i = c.loop-stop.invariant in
+    let r = i.read from old first in
+    let k = c.in_ok-stop.ensures in
+    let many = length_first c.loop-stop.nodes c.loop-stop.count (omega (arith, i.few, i.nodes)) in
+    let more = length_next c.loop-stop.nodes c.loop-stop.count c.factor.new.node (omega (arith, i.few, i.nodes)) in
+    let read = kid_read _ r.read.later k.tree.later r.spends k.spends (read_frame r.read.row) in
+    let long = read_length r.read.row in
+    err_up_to _ _ _ _ c.from_residual-in_err-all.ensures (arena_stops _ (asks_of (asked_few (AFactor r.read.part) r.read.read
+    (λ none. inl (omega (arith, none, long, many, i.held.within))) i.doubled (omega (arith, i.few, more)) i.held.within (omega (arith, long, many, more)))
+    (spends_then read c.in_err-all.ensures.spends (frees_then (read_frame r.read.row) k.tree.placed.frame) (omega (arith, k.tree.within)) (omega (arith, many, more, k.tree.within))
+    (omega (arith, many, more, k.tree.within)))))
+
+pub factors-returns-in_default-clause-tree : goal.factors-returns-in_default-clause-tree
+factors-returns-in_default-clause-tree g t c = λ from old first.
+    let i = c.loop-stop.invariant in
+    let r = i.read from old first in
+    let k = c.in_ok-stop.ensures in
+    let node = c.with_kids.ensures in
+    let built = c.in_ok-all.ensures.row _ _ (exprs_more (factor_trees r.read.part) (factor_tree k.tree.part)
+    (row_next c.loop-stop.nodes c.loop-stop.count (OfExpr (factor_tree k.tree.part)) c.factor.new.node (omega (arith, i.few, i.nodes)) r.read.row k.tree.placed)) in
+    record { part = Times r.read.part k.tree.part; read = reads_then r.read.read (reads_plain c.requires.nest k.tree.read); stopped = c.in_default.ensures.none; placed = prod_placed _ _ _ _ _ (exprs_built _ _ _ _ built) node.kind node.kids node.rest }
+
+pub factors-returns-in_default-clause-spends : goal.factors-returns-in_default-clause-spends
+factors-returns-in_default-clause-spends g t c = λ from old first.
+    let i = c.loop-stop.invariant in
+    let r = i.read from old first in
+    let k = c.in_ok-stop.ensures in
+    let many = length_first c.loop-stop.nodes c.loop-stop.count (omega (arith, i.few, i.nodes)) in
+    let more = length_next c.loop-stop.nodes c.loop-stop.count c.factor.new.node (omega (arith, i.few, i.nodes)) in
+    let read = kid_read _ r.read.later k.tree.later r.spends k.spends (read_frame r.read.row) in
+    asks_any (spends_then read c.in_ok-all.ensures.spends (frees_then (read_frame r.read.row) k.tree.placed.frame) (omega arith) (omega (arith, many, more)) (omega (arith, many, more)))
+
+pub factors-returns-in_err-list-clause-spends : goal.factors-returns-in_err-list-clause-spends
+factors-returns-in_err-list-clause-spends g t c = λ from old first.
+    let i = c.loop-stop.invariant in
+    let r = i.read from old first in
+    let k = c.in_ok-stop.ensures in
+    let op = c.in-Some.ensures.some in
+    let many = length_first c.loop-stop.nodes c.loop-stop.count (omega (arith, i.few, i.nodes)) in
+    let read = kid_read _ r.read.later k.tree.later r.spends k.spends (read_frame r.read.row) in
+    let full : length (set c.loop-stop.nodes c.loop-stop.count c.factor.new.node) ≡ 4 = omega (arith, length-set c.loop-stop.nodes c.loop-stop.count c.factor.new.node, i.nodes) in
+    let long = read_length r.read.row in
+    let longer = read_length (exprs_more (factor_trees r.read.part) (factor_tree k.tree.part)
+    (row_last c.loop-stop.nodes c.loop-stop.count (OfExpr (factor_tree k.tree.part)) c.factor.new.node (omega (arith, c.if-count-eq-FEW.true, i.nodes)) r.read.row k.tree.placed)) in
+    err_up_to _ _ _ _ c.from_residual-in_err-list.ensures (arena_stops _ (asks_of (asked_few (AFactor (Times r.read.part k.tree.part))
+    (reads_then r.read.read (reads_then (reads_plain c.requires.nest k.tree.read) (reads_star c.requires.nest op)))
+    (λ none. inr (omega (arith, none, longer, full, i.held.within), 3, refl)) i.doubled (omega (arith, full)) i.held.within (omega (arith, longer, full)))
+    (spends_then read c.in_err-list.ensures.spends (frees_then (read_frame r.read.row) k.tree.placed.frame) (omega (arith, op.within)) (omega (arith, many, full, c.if-count-eq-FEW.true, op.within))
+    (omega (arith, many, full, c.if-count-eq-FEW.true, op.within)))))
+
+pub factors-loop-stop-preserved-then-count-eq-FEW : goal.factors-loop-stop-preserved-then-count-eq-FEW
+factors-loop-stop-preserved-then-count-eq-FEW g t c =
+    let i = c.loop-stop.invariant in
+    let k = c.in_ok-stop.ensures in
+    let op = c.in-Some.ensures.some in
+    let put = c.in_ok-list.ensures in
+    let full : length (set c.loop-stop.nodes c.loop-stop.count c.factor.new.node) ≡ 4 = omega (arith, length-set c.loop-stop.nodes c.loop-stop.count c.factor.new.node, i.nodes) in
+    record {
+      within = (omega (arith, i.within, k.tree.later, op.later), op.within);
+      few = (omega arith, omega (arith, i.few, put.len, full, k.tree.later, op.later, c.if-count-eq-FEW.true));
+      nodes = full;
+      held = put.held;
+      doubled = subst (λ many. IsDoubled many c.in_ok-list.list.raw.cap) full
+          (put.cap 2 3 full refl (subst (λ many. IsDoubled many c.loop-stop.list.raw.cap) (sym full) i.doubled));
+      read = λ from old first.
+          let r = i.read from old first in
+          let many = length_first c.loop-stop.nodes c.loop-stop.count (omega (arith, i.few, i.nodes)) in
+          let read = kid_read _ r.read.later k.tree.later r.spends k.spends (read_frame r.read.row) in
+          record {
+            read = record {
+              part = Times r.read.part k.tree.part;
+              read = reads_then r.read.read (reads_then (reads_plain c.requires.nest k.tree.read) (reads_star c.requires.nest op));
+              row = read_none (put.row _ _ (exprs_more (factor_trees r.read.part) (factor_tree k.tree.part)
+                  (row_last c.loop-stop.nodes c.loop-stop.count (OfExpr (factor_tree k.tree.part)) c.factor.new.node (omega (arith, c.if-count-eq-FEW.true, i.nodes)) r.read.row k.tree.placed)));
+            };
+            few = omega (arith, r.few, put.len, many, full, c.if-count-eq-FEW.true, k.tree.later, op.later);
+            spends = asks_any (spends_then read put.spends (frees_then (read_frame r.read.row) k.tree.placed.frame) (omega (arith, op.later)) (omega (arith, many, full, c.if-count-eq-FEW.true, op.later))
+                (omega (arith, many, full, c.if-count-eq-FEW.true, op.later)));
+          };
+    }
+
+pub factors-loop-stop-preserved : goal.factors-loop-stop-preserved
+factors-loop-stop-preserved g t c =
+    let i = c.loop-stop.invariant in
+    let k = c.in_ok-stop.ensures in
+    let op = c.in-Some.ensures.some in
+    record {
+      within = (omega (arith, i.within, k.tree.later, op.later), op.within);
+      few = (omega (arith, i.few, c.if-count-eq-FEW.false), omega (arith, i.few, k.tree.later, op.later));
+      nodes = omega (arith, length-set c.loop-stop.nodes c.loop-stop.count c.factor.new.node, i.nodes);
+      held = list_kept i.held k.tree.placed.frame;
+      doubled = i.doubled;
+      read = λ from old first.
+          let r = i.read from old first in
+          let many = length_first c.loop-stop.nodes c.loop-stop.count (omega (arith, i.few, i.nodes)) in
+          let more = length_next c.loop-stop.nodes c.loop-stop.count c.factor.new.node (omega (arith, i.few, i.nodes)) in
+          let read = kid_read _ r.read.later k.tree.later r.spends k.spends (read_frame r.read.row) in
+          record {
+            read = record {
+              part = Times r.read.part k.tree.part;
+              read = reads_then r.read.read (reads_then (reads_plain c.requires.nest k.tree.read) (reads_star c.requires.nest op));
+              row = exprs_more (factor_trees r.read.part) (factor_tree k.tree.part)
+                  (row_next c.loop-stop.nodes c.loop-stop.count (OfExpr (factor_tree k.tree.part)) c.factor.new.node (omega (arith, i.few, i.nodes)) r.read.row k.tree.placed);
+            };
+            few = omega (arith, r.few, many, more, k.tree.later, op.later);
+            spends = asks_any (spends_more read (omega (arith, op.later)) (omega (arith, many, more, op.later)));
+          };
+    }
+
+-- ---- Expressions
+
+pub expr-returns-in-None-clause-tree : goal.expr-returns-in-None-clause-tree
+expr-returns-in-None-clause-tree g t c =
+    let k = c.in_ok-end.ensures.tree in
+    record { part = OneTerm k.part; read = k.read; stopped = (k.stopped, c.in-None.ensures.none); placed = k.placed }
+
+pub expr-returns-in-Some-clause-tree : goal.expr-returns-in-Some-clause-tree
+expr-returns-in-Some-clause-tree g t c =
+    let k = c.in_ok-end.ensures in
+    c.terms.ensures.tree c.args.at c.args.a.now (first_term c.requires.nest k.spends c.in-Some.minus k.tree c.in-Some.ensures.some)
+
+pub expr-returns-in-Some-clause-spends : goal.expr-returns-in-Some-clause-spends
+expr-returns-in-Some-clause-spends g t c =
+    let k = c.in_ok-end.ensures in
+    c.terms.ensures.spends c.args.at c.args.a.now (first_term c.requires.nest k.spends c.in-Some.minus k.tree c.in-Some.ensures.some)
+
+pub expr-returns-in-Some-clause-text : goal.expr-returns-in-Some-clause-text
+expr-returns-in-Some-clause-text g t c =
+    let k = c.in_ok-end.ensures in
+    c.terms.ensures.text c.args.at c.args.a.now (first_term c.requires.nest k.spends c.in-Some.minus k.tree c.in-Some.ensures.some)
+
+pub terms-loop-stop-init : goal.terms-loop-stop-init
+terms-loop-stop-init g t c =
+    let list = c.new_in-list.ensures in
+    record {
+      within = (omega arith, c.requires.within);
+      few = (omega arith, omega (arith, list.len));
+      nodes = refl;
+      held = list.held c.args.a.now.memory;
+      doubled = inl list.cap;
+      read = λ from old first. record {
+        read = record {
+          part = OneTerm first.part;
+          read = first.read;
+          row = read_more (OfExpr (factors_tree first.part)) c.args.node.now (read_none (row_none old.memory c.new_in-list.result
+              (list.held old.memory) (list.list old.memory) (ap (λ (b : Block). b.size) list.block))) first.placed;
+        };
+        few = omega (arith, first.long, list.len);
+        spends = asks_any (spends_more first.spends (omega arith) (omega (arith, list.len)));
+      };
+    }
+
+pub terms-with_more-requires-clause-held : goal.terms-with_more-requires-clause-held
+terms-with_more-requires-clause-held g t c =
+    let i = c.loop-stop.invariant in
+    let k = c.in_ok-stop.ensures in
+    let placed = c.in_ok-sign.ensures.tree (factors_tree k.tree.part) c.loop-stop.a.memory
+    (subst (λ n. IsPlaced (factors_tree k.tree.part) c.loop-stop.a.memory c.term.new.a.memory n)
+    (sym (get_or-set_same c.loop-stop.nodes c.loop-stop.count c.term.new.node _ (omega (arith, i.few, i.nodes)))) k.tree.placed) in
+    list_kept i.held placed.frame
+
+pub terms-with_more-requires-then-count-eq-FEW-clause-held : goal.terms-with_more-requires-then-count-eq-FEW-clause-held
+terms-with_more-requires-then-count-eq-FEW-clause-held g t c =
+    let i = c.loop-stop.invariant in
+    let k = c.in_ok-stop.ensures in
+    let placed = c.in_ok-sign.ensures.tree (factors_tree k.tree.part) c.loop-stop.a.memory
+    (subst (λ n. IsPlaced (factors_tree k.tree.part) c.loop-stop.a.memory c.term.new.a.memory n)
+    (sym (get_or-set_same c.loop-stop.nodes c.loop-stop.count c.term.new.node _ (omega (arith, i.few, i.nodes)))) k.tree.placed) in
+    list_kept i.held placed.frame
+
+pub terms-returns-in_err-stop-clause-spends : goal.terms-returns-in_err-stop-clause-spends
+terms-returns-in_err-stop-clause-spends g t c = λ from old first.
+    let r = c.loop-stop.invariant.read from old first in
+    err_up_to _ _ _ _ c.from_residual.ensures (stops_then _ r.spends c.in_err-stop.ensures.spends (read_frame r.read.row)
+    (omega (arith, r.read.within)) (omega (arith, r.read.within, r.read.later)))
+
+pub terms-returns-in_err-stop-clause-text : goal.terms-returns-in_err-stop-clause-text
+terms-returns-in_err-stop-clause-text g t c = λ from old first.
+    err_text ℕ (NoTermsIn c.args.deep c.args.src.now c.loop-stop.here) (NoTermsIn c.args.deep c.args.src.now from) _ _ c.from_residual.ensures
+    (λ no. refused_then (c.loop-stop.invariant.read from old first).read.read no) c.in_err-stop.ensures.text
+
+pub terms-returns-in_err-sign-clause-spends : goal.terms-returns-in_err-sign-clause-spends
+terms-returns-in_err-sign-clause-spends g t c = λ from old first.
+    let i = c.loop-stop.invariant in
+    let r = i.read from old first in
+    let k = c.in_ok-stop.ensures in
+    let read = kid_read _ r.read.later k.tree.later r.spends k.spends (read_frame r.read.row) in
+    err_up_to _ _ _ _ c.from_residual-in_err-sign.ensures
+    (arena_stops _ (asks_of (asked_list (ATerm r.read.part c.loop-stop.minus) r.read.read 1 (inr (omega arith, 0, refl)))
+    (spends_then read c.in_err-sign.ensures.spends (frees_then (read_frame r.read.row) k.tree.placed.frame) (omega (arith, k.tree.within))
+    (omega (arith, k.tree.within)) (omega (arith, k.tree.within)))))
+
+pub terms-returns-in_err-all-clause-spends : goal.terms-returns-in_err-all-clause-spends
+terms-returns-in_err-all-clause-spends g t c = λ from old first.
+    let i = c.loop-stop.invariant in
+    let r = i.read from old first in
+    let k = c.in_ok-stop.ensures in
+    let many = length_first c.loop-stop.nodes c.loop-stop.count (omega (arith, i.few, i.nodes)) in
+    let more = length_next (set c.loop-stop.nodes c.loop-stop.count c.term.new.node) c.loop-stop.count c.sign.new.node (omega (arith, i.few, length-set c.loop-stop.nodes c.loop-stop.count c.term.new.node, i.nodes)) in
+    let placed = c.in_ok-sign.ensures.tree (factors_tree k.tree.part) c.loop-stop.a.memory
+    (subst (λ n. IsPlaced (factors_tree k.tree.part) c.loop-stop.a.memory c.term.new.a.memory n)
+    (sym (get_or-set_same c.loop-stop.nodes c.loop-stop.count c.term.new.node _ (omega (arith, i.few, i.nodes)))) k.tree.placed) in
+    let read = kid_negated _ (kid_read _ r.read.later k.tree.later r.spends k.spends (read_frame r.read.row)) c.in_ok-sign.ensures.spends
+    (frees_then (read_frame r.read.row) k.tree.placed.frame) in
+    let long = read_length r.read.row in
+    err_up_to _ _ _ _ c.from_residual-in_err-all.ensures (arena_stops _ (asks_of (asked_few (ATerm r.read.part c.loop-stop.minus) r.read.read
+    (λ none. inl (omega (arith, none, long, many, i.held.within))) i.doubled (omega (arith, i.few, more)) i.held.within (omega (arith, long, many, more)))
+    (spends_then read c.in_err-all.ensures.spends (frees_then (read_frame r.read.row) placed.frame) (omega (arith, k.tree.within)) (omega (arith, many, more, k.tree.within))
+    (omega (arith, many, more, k.tree.within)))))
+
+pub terms-returns-in_default-clause-tree : goal.terms-returns-in_default-clause-tree
+terms-returns-in_default-clause-tree g t c = λ from old first.
+    let i = c.loop-stop.invariant in
+    let r = i.read from old first in
+    let k = c.in_ok-stop.ensures in
+    let node = c.with_kids.ensures in
+    let placed = c.in_ok-sign.ensures.tree (factors_tree k.tree.part) c.loop-stop.a.memory
+    (subst (λ n. IsPlaced (factors_tree k.tree.part) c.loop-stop.a.memory c.term.new.a.memory n)
+    (sym (get_or-set_same c.loop-stop.nodes c.loop-stop.count c.term.new.node _ (omega (arith, i.few, i.nodes)))) k.tree.placed) in
+    let built = c.in_ok-all.ensures.row _ _ (terms_more c.loop-stop.minus r.read.part k.tree.part
+    (row_next (set c.loop-stop.nodes c.loop-stop.count c.term.new.node) c.loop-stop.count (OfExpr (signed_tree c.loop-stop.minus (factors_tree k.tree.part))) c.sign.new.node (omega (arith, i.few, length-set c.loop-stop.nodes c.loop-stop.count c.term.new.node, i.nodes)) (row_again c.loop-stop.nodes c.loop-stop.count c.term.new.node r.read.row) placed)) in
+    record { part = joined c.loop-stop.minus r.read.part k.tree.part; read = reads_terms c.loop-stop.minus r.read.part k.tree.part r.read.read k.tree.read; stopped = (k.tree.stopped, c.in_default.ensures.none); placed = terms_placed c.loop-stop.minus r.read.part k.tree.part built node.kind node.kids node.rest }
+
+pub terms-returns-in_default-clause-spends : goal.terms-returns-in_default-clause-spends
+terms-returns-in_default-clause-spends g t c = λ from old first.
+    let i = c.loop-stop.invariant in
+    let r = i.read from old first in
+    let k = c.in_ok-stop.ensures in
+    let many = length_first c.loop-stop.nodes c.loop-stop.count (omega (arith, i.few, i.nodes)) in
+    let more = length_next (set c.loop-stop.nodes c.loop-stop.count c.term.new.node) c.loop-stop.count c.sign.new.node (omega (arith, i.few, length-set c.loop-stop.nodes c.loop-stop.count c.term.new.node, i.nodes)) in
+    let placed = c.in_ok-sign.ensures.tree (factors_tree k.tree.part) c.loop-stop.a.memory
+    (subst (λ n. IsPlaced (factors_tree k.tree.part) c.loop-stop.a.memory c.term.new.a.memory n)
+    (sym (get_or-set_same c.loop-stop.nodes c.loop-stop.count c.term.new.node _ (omega (arith, i.few, i.nodes)))) k.tree.placed) in
+    let read = kid_negated _ (kid_read _ r.read.later k.tree.later r.spends k.spends (read_frame r.read.row)) c.in_ok-sign.ensures.spends
+    (frees_then (read_frame r.read.row) k.tree.placed.frame) in
+    asks_any (spends_then read c.in_ok-all.ensures.spends (frees_then (read_frame r.read.row) placed.frame) (omega arith) (omega (arith, many, more)) (omega (arith, many, more)))
+
+pub terms-returns-in_err-list-clause-spends : goal.terms-returns-in_err-list-clause-spends
+terms-returns-in_err-list-clause-spends g t c = λ from old first.
+    let i = c.loop-stop.invariant in
+    let r = i.read from old first in
+    let k = c.in_ok-stop.ensures in
+    let op = c.in-Some.ensures.some in
+    let many = length_first c.loop-stop.nodes c.loop-stop.count (omega (arith, i.few, i.nodes)) in
+    let placed = c.in_ok-sign.ensures.tree (factors_tree k.tree.part) c.loop-stop.a.memory
+    (subst (λ n. IsPlaced (factors_tree k.tree.part) c.loop-stop.a.memory c.term.new.a.memory n)
+    (sym (get_or-set_same c.loop-stop.nodes c.loop-stop.count c.term.new.node _ (omega (arith, i.few, i.nodes)))) k.tree.placed) in
+    let read = kid_negated _ (kid_read _ r.read.later k.tree.later r.spends k.spends (read_frame r.read.row)) c.in_ok-sign.ensures.spends
+    (frees_then (read_frame r.read.row) k.tree.placed.frame) in
+    let full : length (set (set c.loop-stop.nodes c.loop-stop.count c.term.new.node) c.loop-stop.count c.sign.new.node) ≡ 4 = omega (arith, length-set (set c.loop-stop.nodes c.loop-stop.count c.term.new.node) c.loop-stop.count c.sign.new.node, length-set c.loop-stop.nodes c.loop-stop.count c.term.new.node, i.nodes) in
+    let long = read_length r.read.row in
+    let longer = read_length (terms_more c.loop-stop.minus r.read.part k.tree.part
+    (row_last (set c.loop-stop.nodes c.loop-stop.count c.term.new.node) c.loop-stop.count (OfExpr (signed_tree c.loop-stop.minus (factors_tree k.tree.part))) c.sign.new.node (omega (arith, c.if-count-eq-FEW.true, length-set c.loop-stop.nodes c.loop-stop.count c.term.new.node, i.nodes)) (row_again c.loop-stop.nodes c.loop-stop.count c.term.new.node r.read.row) placed)) in
+    err_up_to _ _ _ _ c.from_residual-in_err-list.ensures (arena_stops _ (asks_of (asked_few (ATerm (joined c.loop-stop.minus r.read.part k.tree.part) c.in-Some.less)
+    (reads_then (reads_terms c.loop-stop.minus r.read.part k.tree.part r.read.read k.tree.read)
+    (reads_sign c.requires.nest c.in-Some.less op))
+    (λ none. inr (omega (arith, none, longer, full, i.held.within), 3, refl)) i.doubled (omega (arith, full)) i.held.within (omega (arith, longer, full)))
+    (spends_then read c.in_err-list.ensures.spends (frees_then (read_frame r.read.row) placed.frame) (omega (arith, op.within)) (omega (arith, many, full, c.if-count-eq-FEW.true, op.within))
+    (omega (arith, many, full, c.if-count-eq-FEW.true, op.within)))))
+
+pub terms-loop-stop-preserved-then-count-eq-FEW : goal.terms-loop-stop-preserved-then-count-eq-FEW
+terms-loop-stop-preserved-then-count-eq-FEW g t c =
+    let i = c.loop-stop.invariant in
+    let k = c.in_ok-stop.ensures in
+    let op = c.in-Some.ensures.some in
+    let put = c.in_ok-list.ensures in
+    let full : length (set (set c.loop-stop.nodes c.loop-stop.count c.term.new.node) c.loop-stop.count c.sign.new.node) ≡ 4 = omega (arith, length-set (set c.loop-stop.nodes c.loop-stop.count c.term.new.node) c.loop-stop.count c.sign.new.node, length-set c.loop-stop.nodes c.loop-stop.count c.term.new.node, i.nodes) in
+    record {
+      within = (omega (arith, i.within, k.tree.later, op.later), op.within);
+      few = (omega arith, omega (arith, i.few, put.len, full, k.tree.later, op.later, c.if-count-eq-FEW.true));
+      nodes = full;
+      held = put.held;
+      doubled = subst (λ many. IsDoubled many c.in_ok-list.list.raw.cap) full
+          (put.cap 2 3 full refl (subst (λ many. IsDoubled many c.loop-stop.list.raw.cap) (sym full) i.doubled));
+      read = λ from old first.
+          let r = i.read from old first in
+          let many = length_first c.loop-stop.nodes c.loop-stop.count (omega (arith, i.few, i.nodes)) in
+          let placed = c.in_ok-sign.ensures.tree (factors_tree k.tree.part) c.loop-stop.a.memory
+          (subst (λ n. IsPlaced (factors_tree k.tree.part) c.loop-stop.a.memory c.term.new.a.memory n)
+          (sym (get_or-set_same c.loop-stop.nodes c.loop-stop.count c.term.new.node _ (omega (arith, i.few, i.nodes)))) k.tree.placed) in
+          let read = kid_negated _ (kid_read _ r.read.later k.tree.later r.spends k.spends (read_frame r.read.row)) c.in_ok-sign.ensures.spends
+          (frees_then (read_frame r.read.row) k.tree.placed.frame) in
+          record {
+            read = record {
+              part = joined c.loop-stop.minus r.read.part k.tree.part;
+              read = reads_then (reads_terms c.loop-stop.minus r.read.part k.tree.part r.read.read k.tree.read)
+                  (reads_sign c.requires.nest c.in-Some.less op);
+              row = read_none (put.row _ _ (terms_more c.loop-stop.minus r.read.part k.tree.part
+                  (row_last (set c.loop-stop.nodes c.loop-stop.count c.term.new.node) c.loop-stop.count (OfExpr (signed_tree c.loop-stop.minus (factors_tree k.tree.part))) c.sign.new.node (omega (arith, c.if-count-eq-FEW.true, length-set c.loop-stop.nodes c.loop-stop.count c.term.new.node, i.nodes)) (row_again c.loop-stop.nodes c.loop-stop.count c.term.new.node r.read.row) placed)));
+            };
+            few = omega (arith, r.few, put.len, many, full, c.if-count-eq-FEW.true, k.tree.later, op.later);
+            spends = asks_any (spends_then read put.spends (frees_then (read_frame r.read.row) placed.frame) (omega (arith, op.later)) (omega (arith, many, full, c.if-count-eq-FEW.true, op.later))
+                (omega (arith, many, full, c.if-count-eq-FEW.true, op.later)));
+          };
+    }
+
+pub terms-loop-stop-preserved : goal.terms-loop-stop-preserved
+terms-loop-stop-preserved g t c =
+    let i = c.loop-stop.invariant in
+    let k = c.in_ok-stop.ensures in
+    let op = c.in-Some.ensures.some in
+    let placed = c.in_ok-sign.ensures.tree (factors_tree k.tree.part) c.loop-stop.a.memory
+    (subst (λ n. IsPlaced (factors_tree k.tree.part) c.loop-stop.a.memory c.term.new.a.memory n)
+    (sym (get_or-set_same c.loop-stop.nodes c.loop-stop.count c.term.new.node _ (omega (arith, i.few, i.nodes)))) k.tree.placed) in
+    record {
+      within = (omega (arith, i.within, k.tree.later, op.later), op.within);
+      few = (omega (arith, i.few, c.if-count-eq-FEW.false), omega (arith, i.few, k.tree.later, op.later));
+      nodes = omega (arith, length-set (set c.loop-stop.nodes c.loop-stop.count c.term.new.node) c.loop-stop.count c.sign.new.node, length-set c.loop-stop.nodes c.loop-stop.count c.term.new.node, i.nodes);
+      held = list_kept i.held placed.frame;
+      doubled = i.doubled;
+      read = λ from old first.
+          let r = i.read from old first in
+          let many = length_first c.loop-stop.nodes c.loop-stop.count (omega (arith, i.few, i.nodes)) in
+          let more = length_next (set c.loop-stop.nodes c.loop-stop.count c.term.new.node) c.loop-stop.count c.sign.new.node (omega (arith, i.few, length-set c.loop-stop.nodes c.loop-stop.count c.term.new.node, i.nodes)) in
+          let read = kid_negated _ (kid_read _ r.read.later k.tree.later r.spends k.spends (read_frame r.read.row)) c.in_ok-sign.ensures.spends
+          (frees_then (read_frame r.read.row) k.tree.placed.frame) in
+          record {
+            read = record {
+              part = joined c.loop-stop.minus r.read.part k.tree.part;
+              read = reads_then (reads_terms c.loop-stop.minus r.read.part k.tree.part r.read.read k.tree.read)
+                  (reads_sign c.requires.nest c.in-Some.less op);
+              row = terms_more c.loop-stop.minus r.read.part k.tree.part
+                  (row_next (set c.loop-stop.nodes c.loop-stop.count c.term.new.node) c.loop-stop.count (OfExpr (signed_tree c.loop-stop.minus (factors_tree k.tree.part))) c.sign.new.node (omega (arith, i.few, length-set c.loop-stop.nodes c.loop-stop.count c.term.new.node, i.nodes)) (row_again c.loop-stop.nodes c.loop-stop.count c.term.new.node r.read.row) placed);
+            };
+            few = omega (arith, r.few, many, more, k.tree.later, op.later);
+            spends = asks_any (spends_more read (omega (arith, op.later)) (omega (arith, many, more, op.later)));
+          };
+    }

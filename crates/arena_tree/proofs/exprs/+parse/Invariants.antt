@@ -1,7 +1,9 @@
-use Rattle.std.proofs.Common.{length, ◌+◌, ◌-◌, ◌*◌, ◌≤◌}
-use Rattle.arena_tree.specs.Parts.{AreFactors, AreTerms}
+use Rattle.std.proofs.Common.{ℕ, ◌≡◌, length, take, ◌+◌, ◌-◌, ◌*◌, ◌<◌, ◌≤◌}
+use Rattle.arena_chunks.specs.Source.{View}
+use Rattle.arena_vec.specs.Vecs.{IsVecIn}
+use Rattle.arena_tree.specs.TreesAt.{node_item}
 use Rattle.arena_tree.specs.Layouts.{IsDoubled}
-use Rattle.arena_tree.specs.Spending.{SpendsOnList}
+use Rattle.arena_tree.specs.Spending.{IsFirstFactor, IsFirstTerm, FactorsRead, TermsRead}
 use Rattle.arena_tree.proofs.exprs.+parse.Given as goal
 
 abbrev pub decreases-expr : goal.decreases-expr
@@ -10,33 +12,45 @@ decreases-expr g l = 4 * (length l.src.now - l.at) + 2
 abbrev pub decreases-factor : goal.decreases-factor
 decreases-factor g l = 4 * (length l.src.now - l.at)
 
+abbrev pub decreases-factors : goal.decreases-factors
+decreases-factors g l = 4 * (length l.src.now - l.at) + 1
+
 abbrev pub decreases-minus : goal.decreases-minus
 decreases-minus g l = 4 * (length l.src.now - l.behind) + 3
 
 abbrev pub decreases-paren : goal.decreases-paren
 decreases-paren g l = 4 * (length l.src.now - l.behind) + 3
 
+abbrev pub decreases-terms : goal.decreases-terms
+decreases-terms g l = 4 * (length l.src.now - l.at) + 2
+
 abbrev pub decreases-term : goal.decreases-term
 decreases-term g l = 4 * (length l.src.now - l.at) + 1
 
-abbrev pub invariant-expr-loop-stop : goal.invariant-expr-loop-stop
-invariant-expr-loop-stop g l = record {
-  read : AreTerms l.deep l.src l.at l.here l.minus l.fn.a.memory l.a.memory l.list;
-  few : 2 * l.list.raw.len ≤ l.here - l.at;
-  doubled : IsDoubled l.list.raw.cap;
-  spends : SpendsOnList l.src (l.here - l.at) l.fn.a l.a l.list;
+abbrev pub invariant-factors-loop-stop : goal.invariant-factors-loop-stop
+invariant-factors-loop-stop g l = record {
+  within : (l.at ≤ l.here) × (l.here ≤ length l.src);
+  few : (l.count < 4) × (2 * (l.list.raw.len + l.count) ≤ l.here - l.at + 2);
+  nodes : length l.nodes ≡ 4;
+  held : IsVecIn node_item l.a.memory l.list;
+  doubled : IsDoubled 4 l.list.raw.cap;
+  read : (from : ℕ) (old : View) → IsFirstFactor l.deep l.src from l.at old l.fn.a l.fn.node
+      → FactorsRead l.deep l.src from l.here old l.a l.list (take l.count l.nodes);
 }
 
-abbrev pub decreases-expr-loop-stop : goal.decreases-expr-loop-stop
-decreases-expr-loop-stop g l = length l.src - l.here
+abbrev pub decreases-factors-loop-stop : goal.decreases-factors-loop-stop
+decreases-factors-loop-stop g l = length l.src - l.here
 
-abbrev pub invariant-term-loop-stop : goal.invariant-term-loop-stop
-invariant-term-loop-stop g l = record {
-  read : AreFactors l.deep l.src l.at l.here l.fn.a.memory l.a.memory l.list;
-  few : 2 * l.list.raw.len ≤ l.here - l.at;
-  doubled : IsDoubled l.list.raw.cap;
-  spends : SpendsOnList l.src (l.here - l.at) l.fn.a l.a l.list;
+abbrev pub invariant-terms-loop-stop : goal.invariant-terms-loop-stop
+invariant-terms-loop-stop g l = record {
+  within : (l.at ≤ l.here) × (l.here ≤ length l.src);
+  few : (l.count < 4) × (2 * (l.list.raw.len + l.count) ≤ l.here - l.at + 2);
+  nodes : length l.nodes ≡ 4;
+  held : IsVecIn node_item l.a.memory l.list;
+  doubled : IsDoubled 4 l.list.raw.cap;
+  read : (from : ℕ) (old : View) → IsFirstTerm l.first l.deep l.src from l.at old l.fn.a l.fn.node
+      → TermsRead l.deep l.src from l.here l.minus old l.a l.list (take l.count l.nodes);
 }
 
-abbrev pub decreases-term-loop-stop : goal.decreases-term-loop-stop
-decreases-term-loop-stop g l = length l.src - l.here
+abbrev pub decreases-terms-loop-stop : goal.decreases-terms-loop-stop
+decreases-terms-loop-stop g l = length l.src - l.here

@@ -17,7 +17,7 @@ abbrev pub invariant-lines-loop-list : goal.invariant-lines-loop-list
 invariant-lines-loop-list g l = record {
   read : AreLines l.deep l.src l.at l.here l.fn.a.memory l.a.memory l.list;
   few : 2 * l.list.raw.len ≤ l.here - l.at;
-  doubled : IsDoubled l.list.raw.cap;
+  doubled : IsDoubled 1 l.list.raw.cap;
   spends : Spends (AskedFor l.src) (most_for (l.here - l.at)) 0 (credit l.list) l.fn.a l.a None;
 }
 

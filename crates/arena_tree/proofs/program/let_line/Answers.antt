@@ -1,4 +1,4 @@
-use Rattle.std.proofs.Common.{ℕ, ◌≤◌, arith, refl, sym, ◌∙◌, ◌-◌}
+use Rattle.std.proofs.Common.{ℕ, ◌≤◌, arith, refl, sym, ◌∙◌, ◌-◌, inl}
 use Rattle.tree_rules.specs.Refusals.{most_nest}
 use Rattle.arena_tree.specs.Spending.{most_for}
 use Rattle.arena_tree.proofs.AskedLemmas.{asked_name, asked_list}
@@ -78,7 +78,7 @@ returns-in_err-wrap-clause-spends g c =
     (reads_value c.requires.nest e.tree.read c.in-Some.ensures.some) in
     let name = slice_range c.args.src.now c.args.begin c.args.end in
     err_up_to _ _ _ _ c.from_residual-in_err-wrap.ensures
-    (arena_stops _ (asks_of (asked_list (ALine Empty (LetLine name e.tree.part)) line 0 (omega arith))
+    (arena_stops _ (asks_of (asked_list (ALine Empty (LetLine name e.tree.part)) line 1 (inl refl))
     (spends_then read c.in_err-wrap.ensures.spends (frees_then text.frame e.tree.placed.frame) (omega arith) (omega arith) (omega arith))))
 
 pub returns-clause-spends : goal.returns-clause-spends

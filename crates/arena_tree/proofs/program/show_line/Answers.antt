@@ -1,4 +1,4 @@
-use Rattle.std.proofs.Common.{ℕ, arith, refl, sym, ◌∙◌}
+use Rattle.std.proofs.Common.{ℕ, arith, refl, sym, ◌∙◌, inl}
 use Rattle.arena_tree.proofs.AskedLemmas.{asked_list}
 use Rattle.tree_nodes.proofs.SpendingLemmas.{asks_of, asks_any, spends_then, frees}
 use Rattle.arena_tree.proofs.PartCostLemmas.{err_up_to, err_text, arena_stops, text_stops}
@@ -48,7 +48,7 @@ returns-in_err-wrap-clause-spends g c =
     let e = c.in_ok-stop.ensures in
     let line = reads_value c.requires.nest e.tree.read c.in-Some.ensures.some in
     err_up_to _ _ _ _ c.from_residual-in_err-wrap.ensures
-    (arena_stops _ (asks_of (asked_list (ALine Empty (ShowLine e.tree.part)) line 0 (omega arith))
+    (arena_stops _ (asks_of (asked_list (ALine Empty (ShowLine e.tree.part)) line 1 (inl refl))
     (spends_then e.spends c.in_err-wrap.ensures.spends (frees e.tree.placed.frame) (omega arith) (omega arith) (omega arith))))
 
 pub returns-clause-spends : goal.returns-clause-spends

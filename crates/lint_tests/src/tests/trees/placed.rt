@@ -65,16 +65,22 @@ fn refused_texts(rt: HostRuntime) {
     }
 }
 
-/// A text, the bytes of an arena, and whether they are enough for its tree. Nodes have 88 bytes. Lists begin at
-/// multiples of 8, have room for one node or two, and double. For the longer text: a name of one byte, one, a list of
-/// two nodes up to 184; a name, a list of two up to 368; a name, the list of a negation up to 464; the second list with
-/// room for four up to 816, and two lists of one node.
+/// A text, the bytes of an arena, and whether they are enough for its tree. Nodes have 88 bytes, and lists begin at
+/// multiples of 8. A list of up to four nodes has just the room for them, and one of five has room for eight. The last
+/// two lists of each text have one node each. For the text with names: four names of one byte, the list of a negation
+/// up to 96, and those of the sum and of the product up to 360 and 536. The list of nine numbers grows at the cursor.
 const SIZES: &[(&[u8], usize, bool)] = &[
     (b"1;", 0, false),
     (b"1;", 160, false),
     (b"1;", 176, true),
-    (b"let x = a*(b+1-c);", 976, false),
-    (b"let x = a*(b+1-c);", 992, true),
+    (b"let x = a*(b+1-c);", 704, false),
+    (b"let x = a*(b+1-c);", 720, true),
+    (b"1+2+3+4;", 512, false),
+    (b"1+2+3+4;", 528, true),
+    (b"1+2+3+4+5;", 864, false),
+    (b"1+2+3+4+5;", 880, true),
+    (b"1*1*1*1*1*1*1*1*1;", 1568, false),
+    (b"1*1*1*1*1*1*1*1*1;", 1584, true),
 ];
 
 #[test]

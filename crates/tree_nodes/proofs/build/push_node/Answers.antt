@@ -1,6 +1,6 @@
 use Rattle.std.proofs.lemmas.Result.{on_ok_weaker}
-use Rattle.tree_nodes.proofs.RowLemmas.{row_more}
-use Rattle.std.proofs.Common.{sym, subst, ◌∙◌}
+use Rattle.tree_nodes.proofs.RowLemmas.{rows_more, gathered_one}
+use Rattle.std.proofs.Common.{sym, subst, refl, [], ◌∷◌, ◌∙◌, arith}
 use Rattle.arena_items.proofs.Layers.{length-elements}
 use Rattle.arena_vec.specs.Vecs.{vec_list}
 use Rattle.tree_nodes.specs.Layouts.{IsDoubled}
@@ -11,7 +11,7 @@ use Rattle.tree_nodes.proofs.build.push_node.Goals as goal
 pub returns-clause-row : goal.returns-clause-row
 returns-clause-row g c = λ ts t old one built placed.
     let push = c.push.ensures in
-    on_ok_weaker c.push.result (λ list. row_more ts t _ _ _ _ _ built placed _ _ push.held list push.frame) push.list_is
+    on_ok_weaker c.push.result (λ list. rows_more ts (t ∷ []) _ _ _ _ _ built (gathered_one t placed) _ _ push.held list push.frame) push.list_is
 
 pub returns-clause-spends : goal.returns-clause-spends
 returns-clause-spends g c =
@@ -23,14 +23,14 @@ returns-clause-spends g c =
       doubles = c.growth_rule.ensures.doubles;
       grows = c.growth_rule.ensures.grows;
     })
-    c.args.a.now c.push.new.a c.args.list.now c.push.new.list _ c.known.ensures.state c.requires.held c.requires.few
-    (pushed_length (vec_list node_item c.args.a.now.memory c.args.list.now) c.args.node.now c.args.list.now.raw.len
+    c.args.a.now c.push.new.a c.args.list.now c.push.new.list _ c.known.ensures.state c.requires.held 1 (omega arith) (omega (arith, c.requires.few))
+    (pushed_length (vec_list node_item c.args.a.now.memory c.args.list.now) (c.args.node.now ∷ []) c.args.list.now.raw.len
     (length-elements 88 node_item.decoded c.args.list.now.raw.len _))
     c.push.result c.push.ensures
 
 pub returns-clause-len : goal.returns-clause-len
 returns-clause-len g c =
-    on_ok_weaker c.push.result (λ is. is ∙ pushed_length (vec_list node_item c.args.a.now.memory c.args.list.now) c.args.node.now
+    on_ok_weaker c.push.result (λ is. is ∙ pushed_length (vec_list node_item c.args.a.now.memory c.args.list.now) (c.args.node.now ∷ [])
     c.args.list.now.raw.len (length-elements 88 node_item.decoded c.args.list.now.raw.len _)) c.push.ensures.len
 
 pub returns-clause-cap : goal.returns-clause-cap
@@ -43,8 +43,8 @@ returns-clause-cap g c = λ doubled.
       doubles = c.growth_rule.ensures.doubles;
       grows = c.growth_rule.ensures.grows;
     })
-    c.args.list.now.raw.len c.args.list.now.raw.cap c.requires.few c.requires.held.within doubled in
-    on_ok_weaker c.push.result (λ is. subst IsDoubled (sym is) after) c.push.ensures.cap
+    c.args.list.now.raw.len c.args.list.now.raw.cap 1 (omega (arith, c.requires.few)) 0 refl c.requires.held.within doubled in
+    on_ok_weaker c.push.result (λ is. subst (IsDoubled 1) (sym is) after) c.push.ensures.cap
 
 pub returns-clause-err : goal.returns-clause-err
 returns-clause-err g c = c.push.ensures.err
