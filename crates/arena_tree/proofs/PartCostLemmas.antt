@@ -15,7 +15,7 @@ use Rattle.arena_tree.specs.declared.stop.Stop.TheVariants.{AllocErr, OutOfMemor
 use Rattle.arena_tree.specs.Spending.{Spends, Stopped, node_cost, most_for, left_for_node, SpendsUpTo, SpendsAll}
 use Rattle.tree_nodes.proofs.SpendingLemmas.{spends_nothing, spends_then, spends_more, asks_any, frees}
 
--- A child is read after others. It may then be negated.
+-- A child is read after others. It may then be negated, which leaves less.
 pub kid_read : {some layouts : Layouts} {at here end : ℕ} {old one two : View} (saved : ℕ) → at < here → here < end
     → Spends some (most_for (here - at)) 0 (1024 + saved) old one None
     → Spends layouts (most_for (end - here)) 0 left_for_node one two None
@@ -25,6 +25,10 @@ kid_read saved some later ones kid frame = spends_then ones kid frame (omega ari
 pub kid_negated : {some layouts : Layouts} {paid : ℕ} {old one two : View} (saved : ℕ) → Spends some paid 0 (1536 + saved) old one None
     → Spends layouts node_cost 0 0 one two None → Frame old.memory one.memory [] [] → Spends layouts paid 0 (1177 + saved) old two None
 kid_negated saved read negated frame = spends_then read negated frame (omega arith) (omega arith) (omega arith)
+
+pub kid_plain : {layouts : Layouts} {paid : ℕ} {old new : View} (saved : ℕ) → Spends layouts paid 0 (1536 + saved) old new None
+    → Spends layouts paid 0 (1177 + saved) old new None
+kid_plain saved read = spends_more read (omega arith) (omega arith)
 
 -- ---- Parts that weren't read whole
 

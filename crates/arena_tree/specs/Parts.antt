@@ -11,7 +11,6 @@ use Rattle.tree_rules.specs.declared.machine.Open.TheVariants.{Paren}
 use Rattle.tree_rules.specs.declared.machine.Mode.TheVariants.{AtFactor, BehindFactor}
 use Rattle.tree_reader.specs.Seen.{tokens_at}
 use Rattle.arena_tree.specs.TreesAt.{IsPlaced}
-use Rattle.arena_tree.specs.Subtrees.{expr_row, IsRowRead}
 use Rattle.tree_nodes.specs.declared.node.Node.{Node}
 use Rattle.arena_tree.specs.declared.look.Start.{Start}
 use Rattle.arena_tree.specs.declared.look.Start.TheVariants as start
@@ -92,9 +91,11 @@ sign_of false = Plus
 
 -- From one byte to another there are these tokens, and over them the machine goes from one state to the other, whatever
 -- is open: the text is refused from the one on as it is from the other.
-pub record Reads {X : Type 0} (bytes : List ℕ) (from end : ℕ) (spelled : List Token → List Token) (before behind : X → State) : Type 0 where
+pub record Reads {X : Type 0} (bytes : List ℕ) (from end : ℕ) (spelled : List Token → List Token)
+    (before behind : X → State) : Type 0 where
   pub tokens_are : spelled_at bytes from ≡ spelled (spelled_at bytes end)
-  pub same : (x : X) → refusal_from (length bytes) (before x) (tokens_at bytes from) ≡ refusal_from (length bytes) (behind x) (tokens_at bytes end)
+  pub same : (x : X) → refusal_from (length bytes) (before x) (tokens_at bytes from)
+      ≡ refusal_from (length bytes) (behind x) (tokens_at bytes end)
   pub later : from < end
   pub within : end ≤ length bytes
 
@@ -121,20 +122,6 @@ IsTerm deep = IsPart factors_tree spell_factors NoStar (terms_at deep) (terms_be
 
 abbrev pub IsTerms : ℕ → List ℕ → ℕ → ℕ → Memory → Memory → Node → Type 0
 IsTerms deep = IsPart terms_tree spell_terms TermsStop (terms_at deep) (terms_behind deep)
-
--- Factors were read up to a star, and the nodes of the first are in a list; a factor is to come.
-pub record AreFactors (deep : ℕ) (bytes : List ℕ) (from next : ℕ) (old new : Memory) (list : Vec Node) (nodes : List Node) : Type 0 where
-  pub part : Factors
-  pub read : Reads bytes from next (λ more. spell_factors part (Star ∷ more)) (terms_at deep) (terms_at deep)
-  pub open read use *
-  pub row : IsRowRead (expr_row (factor_trees part)) old new list nodes
-
--- Terms were read up to a sign, and the nodes of the first are in a list; a term is to come.
-pub record AreTerms (deep : ℕ) (bytes : List ℕ) (from next : ℕ) (minus : Bool) (old new : Memory) (list : Vec Node) (nodes : List Node) : Type 0 where
-  pub part : Terms
-  pub read : Reads bytes from next (λ more. spell_terms part (sign_of minus ∷ more)) (terms_at deep) (terms_at deep)
-  pub open read use *
-  pub row : IsRowRead (expr_row (term_trees part)) old new list nodes
 
 -- What a factor begins with: a number of 64 bits, a name, a sign or a parenthesis.
 abbrev pub IsStart : List ℕ → ℕ → Start → Type 0

@@ -6,10 +6,11 @@ use Rattle.arena_vec.specs.declared.vec.Vec.{Vec}
 pub use Rattle.tree_nodes.specs.Spending.{KeepsKind, far_end, IsStarvedBehind, IsRefused, Stops, Spends, SpendsOnMore, error_of, node_cost, credit}
 use Rattle.tree_nodes.specs.declared.node.Node.{Node}
 use Rattle.tree_rules.specs.Tokens.{Token, Star}
-use Rattle.tree_rules.specs.Trees.{Expr}
-use Rattle.tree_rules.specs.Grammar.{spell_factor, spell_factors, factor_tree, factors_tree}
+use Rattle.tree_rules.specs.Trees.{Expr, Exprs}
+use Rattle.tree_rules.specs.Grammar.{spell_factor, spell_factors, spell_terms, factor_tree, factors_tree, factor_trees, term_trees}
 use Rattle.arena_tree.specs.TreesAt.{IsPlaced}
-use Rattle.arena_tree.specs.Parts.{Reads, terms_at, sign_of, AreFactors, AreTerms}
+use Rattle.arena_tree.specs.Parts.{Reads, terms_at, sign_of}
+use Rattle.arena_tree.specs.Subtrees.{expr_row, IsRowRead}
 use Rattle.arena_tree.specs.Layouts.{AskedFor}
 use Rattle.arena_tree.specs.Stops.{cause}
 use Rattle.arena_tree.specs.declared.stop.Stop.{Stop}
@@ -31,12 +32,6 @@ abbrev pub SpendsUpTo : ℕ → List ℕ → View → View → Result ℕ Stop �
 SpendsUpTo from bytes old new (Ok end) = Spends (AskedFor bytes) (most_for (end - from)) 0 left_for_node old new None
 SpendsUpTo from bytes old new (Err e) = Stopped from bytes old new e
 
--- Children were read up to an operator, and so many of their nodes are in no list yet: what is left is for those, for a
--- child that may be negated, and what the list saved.
-abbrev pub SpendsOnList : List ℕ → ℕ → View → View → Vec Node → ℕ → Type 0
-SpendsOnList bytes many old new list count =
-    Spends (AskedFor bytes) (most_for many) 0 (1024 + (credit list + node_cost * count)) old new None
-
 -- The first of several children was read up to an operator. Its node is in no list yet.
 pub record IsFirst {P : Type 0} (tree : P → Expr) (spelled : P → List Token → List Token) (operator : Token) (deep : ℕ) (bytes : List ℕ)
     (from at : ℕ) (old now : View) (n : Node) : Type 0 where
@@ -53,16 +48,22 @@ IsFirstFactor = IsFirst factor_tree spell_factor Star
 abbrev pub IsFirstTerm : Bool → ℕ → List ℕ → ℕ → ℕ → View → View → Node → Type 0
 IsFirstTerm minus = IsFirst factors_tree spell_factors (sign_of minus)
 
--- Factors, or terms, were read from a byte up to an operator.
-pub record FactorsRead (deep : ℕ) (bytes : List ℕ) (from next : ℕ) (old now : View) (list : Vec Node) (nodes : List Node) : Type 0 where
-  pub read : AreFactors deep bytes from next old.memory now.memory list nodes
+-- Children were read up to an operator. The nodes of the first are in a list, and these others in no list yet. What is
+-- left is for those, for a child that may be negated, and what the list saved.
+pub record AreRead {P : Type 0} (trees : P → Exprs) (spelled : P → List Token → List Token) (operator : Token) (deep : ℕ) (bytes : List ℕ)
+    (from next : ℕ) (old now : View) (list : Vec Node) (nodes : List Node) : Type 0 where
+  pub part : P
+  pub read : Reads bytes from next (λ more. spelled part (operator ∷ more)) (terms_at deep) (terms_at deep)
+  pub open read use *
+  pub row : IsRowRead (expr_row (trees part)) old.memory now.memory list nodes
   pub few : 2 * (list.raw.len + length nodes) ≤ next - from
-  pub spends : SpendsOnList bytes (next - from) old now list (length nodes)
+  pub spends : Spends (AskedFor bytes) (most_for (next - from)) 0 (1024 + (credit list + node_cost * length nodes)) old now None
 
-pub record TermsRead (deep : ℕ) (bytes : List ℕ) (from next : ℕ) (minus : Bool) (old now : View) (list : Vec Node) (nodes : List Node) : Type 0 where
-  pub read : AreTerms deep bytes from next minus old.memory now.memory list nodes
-  pub few : 2 * (list.raw.len + length nodes) ≤ next - from
-  pub spends : SpendsOnList bytes (next - from) old now list (length nodes)
+abbrev pub FactorsRead : ℕ → List ℕ → ℕ → ℕ → View → View → Vec Node → List Node → Type 0
+FactorsRead = AreRead factor_trees spell_factors Star
+
+abbrev pub TermsRead : Bool → ℕ → List ℕ → ℕ → ℕ → View → View → Vec Node → List Node → Type 0
+TermsRead minus = AreRead term_trees spell_terms (sign_of minus)
 
 -- Statements were read, and their nodes are in a list; or none begins there.
 abbrev pub SpendsAll : {X : Type 0} → ℕ → List ℕ → View → View → Result (X × ℕ) Stop → Type 0

@@ -1,4 +1,4 @@
-use Rattle.std.proofs.Common.{ℕ, ◌≡◌, ◌+◌, ap, sym, subst, refl, inl, inr, length, length-set, set, arith}
+use Rattle.std.proofs.Common.{ℕ, ◌≡◌, ◌+◌, ap, sym, subst, refl, inl, inr, length, length-set, length-take, set, take, ◌∙◌, arith}
 use Rattle.std.proofs.lemmas.List.{get_or-set_same}
 use Rattle.std.specs.Prelude.{slice_range}
 use Rattle.arena_store.specs.declared.block.Block.{Block}
@@ -11,9 +11,9 @@ use Rattle.tree_nodes.proofs.BuildLemmas.{prod_placed, number_placed}
 use Rattle.tree_nodes.proofs.RowLemmas.{row_none, read_none, read_more, read_frame, read_length, list_kept, exprs_built, exprs_more}
 use Rattle.tree_nodes.proofs.SpendingLemmas.{spends_then, spends_more, asks_of, asks_any, frees, frees_then, range_length}
 use Rattle.arena_tree.proofs.AskedLemmas.{asked_name, asked_list, asked_few}
-use Rattle.arena_tree.proofs.PartCostLemmas.{kid_read, kid_negated, stops_then, stops_more, arena_stops, text_stops, err_up_to, err_text}
+use Rattle.arena_tree.proofs.PartCostLemmas.{kid_read, kid_plain, kid_negated, stops_then, stops_more, arena_stops, text_stops, err_up_to, err_text}
 use Rattle.arena_tree.proofs.PartLemmas.{reads_then, reads_in, reads_leaf, reads_plain, reads_star, reads_sign, reads_terms, refused_then, in_paren, in_sign, unsigned, opens_paren, closes_paren, opens_sign, deep_paren, deep_sign, joined, terms_more, terms_placed}
-use Rattle.arena_tree.proofs.GatherLemmas.{first_factor, first_term, row_next, row_last, row_again, length_next, length_first}
+use Rattle.arena_tree.proofs.GatherLemmas.{first_factor, first_term, row_next, row_last, row_again, read_beside, read_into, length_next, length_last}
 use Rattle.arena_tree.proofs.exprs.+parse.Goals as goal
 
 pub factor-returns-in-Some-Number-clause-tree : goal.factor-returns-in-Some-Number-clause-tree
@@ -169,12 +169,10 @@ factors-loop-stop-init g t c =
       held = list.held c.args.a.now.memory;
       doubled = inl list.cap;
       read = λ from old first. record {
-        read = record {
-          part = OneFactor first.part;
-          read = first.read;
-          row = read_more (OfExpr (factor_tree first.part)) c.args.node.now (read_none (row_none old.memory c.new_in-list.result
-              (list.held old.memory) (list.list old.memory) (ap (λ (b : Block). b.size) list.block))) first.placed;
-        };
+        part = OneFactor first.part;
+        read = first.read;
+        row = read_more (OfExpr (factor_tree first.part)) c.args.node.now (read_none (row_none old.memory c.new_in-list.result
+            (list.held old.memory) (list.list old.memory) (ap (λ (b : Block). b.size) list.block))) first.placed;
         few = omega (arith, first.long, list.len);
         spends = asks_any (spends_more first.spends (omega arith) (omega (arith, list.len)));
       };
@@ -183,27 +181,26 @@ factors-loop-stop-init g t c =
 pub factors-returns-in_err-stop-clause-spends : goal.factors-returns-in_err-stop-clause-spends
 factors-returns-in_err-stop-clause-spends g t c = λ from old first.
     let r = c.loop-stop.invariant.read from old first in
-    err_up_to _ _ _ _ c.from_residual.ensures (stops_then _ r.spends c.in_err-stop.ensures.spends (read_frame r.read.row)
-    (omega (arith, r.read.within)) (omega (arith, r.read.within, r.read.later)))
+    err_up_to _ _ _ _ c.from_residual.ensures (stops_then _ r.spends c.in_err-stop.ensures.spends (read_frame r.row)
+    (omega (arith, r.within)) (omega (arith, r.within, r.later)))
 
 pub factors-returns-in_err-stop-clause-text : goal.factors-returns-in_err-stop-clause-text
 factors-returns-in_err-stop-clause-text g t c = λ from old first.
     err_text ℕ (NoFactorIn c.args.deep c.args.src.now c.loop-stop.here) (NoTermsIn c.args.deep c.args.src.now from) _ _ c.from_residual.ensures
-    (λ no. refused_then (c.loop-stop.invariant.read from old first).read.read (λ o. no (unsigned o))) c.in_err-stop.ensures.text
+    (λ no. refused_then (c.loop-stop.invariant.read from old first).read (λ o. no (unsigned o))) c.in_err-stop.ensures.text
 
 pub factors-returns-in_err-all-clause-spends : goal.factors-returns-in_err-all-clause-spends
 factors-returns-in_err-all-clause-spends g t c = λ from old first.
     let i = c.loop-stop.invariant in
     let r = i.read from old first in
     let k = c.in_ok-stop.ensures in
-    let many = length_first c.loop-stop.nodes c.loop-stop.count (omega (arith, i.few, i.nodes)) in
-    let more = length_next c.loop-stop.nodes c.loop-stop.count c.factor.new.node (omega (arith, i.few, i.nodes)) in
-    let read = kid_read _ r.read.later k.tree.later r.spends k.spends (read_frame r.read.row) in
-    let long = read_length r.read.row in
-    err_up_to _ _ _ _ c.from_residual-in_err-all.ensures (arena_stops _ (asks_of (asked_few (AFactor r.read.part) r.read.read
-    (λ none. inl (omega (arith, none, long, many, i.held.within))) i.doubled (omega (arith, i.few, more)) i.held.within (omega (arith, long, many, more)))
-    (spends_then read c.in_err-all.ensures.spends (frees_then (read_frame r.read.row) k.tree.placed.frame) (omega (arith, k.tree.within)) (omega (arith, many, more, k.tree.within))
-    (omega (arith, many, more, k.tree.within)))))
+    let more = length_next c.loop-stop.nodes c.loop-stop.count c.loop-stop.nodes c.factor.new.node refl (omega (arith, i.few, i.nodes)) in
+    let read = kid_plain _ (kid_read _ r.later k.tree.later r.spends k.spends (read_frame r.row)) in
+    let long = read_length r.row in
+    err_up_to _ _ _ _ c.from_residual-in_err-all.ensures (arena_stops _ (asks_of (asked_few (AFactor r.part) r.read
+    (λ none. inl (omega (arith, none, long, more, length-take c.loop-stop.count c.loop-stop.nodes, i.few, i.nodes, i.held.within))) i.doubled (omega (arith, i.few, more, length-take c.loop-stop.count c.loop-stop.nodes, i.few, i.nodes)) i.held.within (omega (arith, long, more)))
+    (spends_then read c.in_err-all.ensures.spends (frees_then (read_frame r.row) k.tree.placed.frame) (omega (arith, k.tree.within)) (omega (arith, more, k.tree.within))
+    (omega (arith, more, k.tree.within)))))
 
 pub factors-returns-in_default-clause-tree : goal.factors-returns-in_default-clause-tree
 factors-returns-in_default-clause-tree g t c = λ from old first.
@@ -211,19 +208,18 @@ factors-returns-in_default-clause-tree g t c = λ from old first.
     let r = i.read from old first in
     let k = c.in_ok-stop.ensures in
     let node = c.with_kids.ensures in
-    let built = c.in_ok-all.ensures.row _ _ (exprs_more (factor_trees r.read.part) (factor_tree k.tree.part)
-    (row_next c.loop-stop.nodes c.loop-stop.count (OfExpr (factor_tree k.tree.part)) c.factor.new.node (omega (arith, i.few, i.nodes)) r.read.row k.tree.placed)) in
-    record { part = Times r.read.part k.tree.part; read = reads_then r.read.read (reads_plain c.requires.nest k.tree.read); stopped = c.in_default.ensures.none; placed = prod_placed _ _ _ _ _ (exprs_built _ _ _ _ built) node.kind node.kids node.rest }
+    let built = c.in_ok-all.ensures.row _ _ (exprs_more (factor_trees r.part) (factor_tree k.tree.part)
+    (row_next c.loop-stop.nodes c.loop-stop.count (OfExpr (factor_tree k.tree.part)) c.factor.new.node (omega (arith, i.few, i.nodes)) r.row k.tree.placed)) in
+    record { part = Times r.part k.tree.part; read = reads_then r.read (reads_plain c.requires.nest k.tree.read); stopped = c.in_default.ensures.none; placed = prod_placed _ _ _ _ _ (exprs_built _ _ _ _ built) node.kind node.kids node.rest }
 
 pub factors-returns-in_default-clause-spends : goal.factors-returns-in_default-clause-spends
 factors-returns-in_default-clause-spends g t c = λ from old first.
     let i = c.loop-stop.invariant in
     let r = i.read from old first in
     let k = c.in_ok-stop.ensures in
-    let many = length_first c.loop-stop.nodes c.loop-stop.count (omega (arith, i.few, i.nodes)) in
-    let more = length_next c.loop-stop.nodes c.loop-stop.count c.factor.new.node (omega (arith, i.few, i.nodes)) in
-    let read = kid_read _ r.read.later k.tree.later r.spends k.spends (read_frame r.read.row) in
-    asks_any (spends_then read c.in_ok-all.ensures.spends (frees_then (read_frame r.read.row) k.tree.placed.frame) (omega arith) (omega (arith, many, more)) (omega (arith, many, more)))
+    let more = length_next c.loop-stop.nodes c.loop-stop.count c.loop-stop.nodes c.factor.new.node refl (omega (arith, i.few, i.nodes)) in
+    let read = kid_plain _ (kid_read _ r.later k.tree.later r.spends k.spends (read_frame r.row)) in
+    asks_any (spends_then read c.in_ok-all.ensures.spends (frees_then (read_frame r.row) k.tree.placed.frame) (omega arith) (omega (arith, more)) (omega (arith, more)))
 
 pub factors-returns-in_err-list-clause-spends : goal.factors-returns-in_err-list-clause-spends
 factors-returns-in_err-list-clause-spends g t c = λ from old first.
@@ -231,17 +227,15 @@ factors-returns-in_err-list-clause-spends g t c = λ from old first.
     let r = i.read from old first in
     let k = c.in_ok-stop.ensures in
     let op = c.in-Some.ensures.some in
-    let many = length_first c.loop-stop.nodes c.loop-stop.count (omega (arith, i.few, i.nodes)) in
-    let read = kid_read _ r.read.later k.tree.later r.spends k.spends (read_frame r.read.row) in
-    let full : length (set c.loop-stop.nodes c.loop-stop.count c.factor.new.node) ≡ 4 = omega (arith, length-set c.loop-stop.nodes c.loop-stop.count c.factor.new.node, i.nodes) in
-    let long = read_length r.read.row in
-    let longer = read_length (exprs_more (factor_trees r.read.part) (factor_tree k.tree.part)
-    (row_last c.loop-stop.nodes c.loop-stop.count (OfExpr (factor_tree k.tree.part)) c.factor.new.node (omega (arith, c.if-count-eq-FEW.true, i.nodes)) r.read.row k.tree.placed)) in
-    err_up_to _ _ _ _ c.from_residual-in_err-list.ensures (arena_stops _ (asks_of (asked_few (AFactor (Times r.read.part k.tree.part))
-    (reads_then r.read.read (reads_then (reads_plain c.requires.nest k.tree.read) (reads_star c.requires.nest op)))
-    (λ none. inr (omega (arith, none, longer, full, i.held.within), 3, refl)) i.doubled (omega (arith, full)) i.held.within (omega (arith, longer, full)))
-    (spends_then read c.in_err-list.ensures.spends (frees_then (read_frame r.read.row) k.tree.placed.frame) (omega (arith, op.within)) (omega (arith, many, full, c.if-count-eq-FEW.true, op.within))
-    (omega (arith, many, full, c.if-count-eq-FEW.true, op.within)))))
+    let more = length_last c.loop-stop.nodes c.loop-stop.count c.loop-stop.nodes c.factor.new.node refl (omega (arith, c.if-count-eq-FEW.true, i.nodes)) in
+    let read = kid_plain _ (kid_read _ r.later k.tree.later r.spends k.spends (read_frame r.row)) in
+    let long = read_length (exprs_more (factor_trees r.part) (factor_tree k.tree.part)
+    (row_last c.loop-stop.nodes c.loop-stop.count (OfExpr (factor_tree k.tree.part)) c.factor.new.node (omega (arith, c.if-count-eq-FEW.true, i.nodes)) r.row k.tree.placed)) in
+    let full = length-take c.loop-stop.count c.loop-stop.nodes in
+    err_up_to _ _ _ _ c.from_residual-in_err-list.ensures (arena_stops _ (asks_of (asked_few (AFactor (Times r.part k.tree.part)) (reads_then (reads_then r.read (reads_plain c.requires.nest k.tree.read)) (reads_star c.requires.nest op))
+    (λ none. inr (omega (arith, none, long, more, full, c.if-count-eq-FEW.true, i.nodes, i.held.within), 3, refl)) i.doubled
+    (omega (arith, more, full, c.if-count-eq-FEW.true, i.nodes)) i.held.within (omega (arith, long)))
+    (spends_then read c.in_err-list.ensures.spends (frees_then (read_frame r.row) k.tree.placed.frame) (omega (arith, op.within)) (omega (arith, more, op.within)) (omega (arith, more, op.within)))))
 
 pub factors-loop-stop-preserved-then-count-eq-FEW : goal.factors-loop-stop-preserved-then-count-eq-FEW
 factors-loop-stop-preserved-then-count-eq-FEW g t c =
@@ -249,7 +243,9 @@ factors-loop-stop-preserved-then-count-eq-FEW g t c =
     let k = c.in_ok-stop.ensures in
     let op = c.in-Some.ensures.some in
     let put = c.in_ok-list.ensures in
-    let full : length (set c.loop-stop.nodes c.loop-stop.count c.factor.new.node) ≡ 4 = omega (arith, length-set c.loop-stop.nodes c.loop-stop.count c.factor.new.node, i.nodes) in
+    let more = length_last c.loop-stop.nodes c.loop-stop.count c.loop-stop.nodes c.factor.new.node refl (omega (arith, c.if-count-eq-FEW.true, i.nodes)) in
+    let full : length (set c.loop-stop.nodes c.loop-stop.count c.factor.new.node) ≡ 4
+    = omega (arith, more, length-take c.loop-stop.count c.loop-stop.nodes, c.if-count-eq-FEW.true, i.nodes) in
     record {
       within = (omega (arith, i.within, k.tree.later, op.later), op.within);
       few = (omega arith, omega (arith, i.few, put.len, full, k.tree.later, op.later, c.if-count-eq-FEW.true));
@@ -259,19 +255,10 @@ factors-loop-stop-preserved-then-count-eq-FEW g t c =
           (put.cap 2 3 full refl (subst (λ many. IsDoubled many c.loop-stop.list.raw.cap) (sym full) i.doubled));
       read = λ from old first.
           let r = i.read from old first in
-          let many = length_first c.loop-stop.nodes c.loop-stop.count (omega (arith, i.few, i.nodes)) in
-          let read = kid_read _ r.read.later k.tree.later r.spends k.spends (read_frame r.read.row) in
-          record {
-            read = record {
-              part = Times r.read.part k.tree.part;
-              read = reads_then r.read.read (reads_then (reads_plain c.requires.nest k.tree.read) (reads_star c.requires.nest op));
-              row = read_none (put.row _ _ (exprs_more (factor_trees r.read.part) (factor_tree k.tree.part)
-                  (row_last c.loop-stop.nodes c.loop-stop.count (OfExpr (factor_tree k.tree.part)) c.factor.new.node (omega (arith, c.if-count-eq-FEW.true, i.nodes)) r.read.row k.tree.placed)));
-            };
-            few = omega (arith, r.few, put.len, many, full, c.if-count-eq-FEW.true, k.tree.later, op.later);
-            spends = asks_any (spends_then read put.spends (frees_then (read_frame r.read.row) k.tree.placed.frame) (omega (arith, op.later)) (omega (arith, many, full, c.if-count-eq-FEW.true, op.later))
-                (omega (arith, many, full, c.if-count-eq-FEW.true, op.later)));
-          };
+          let read = kid_plain _ (kid_read _ r.later k.tree.later r.spends k.spends (read_frame r.row)) in
+          read_into c.loop-stop.list (take c.loop-stop.count c.loop-stop.nodes) (set c.loop-stop.nodes c.loop-stop.count c.factor.new.node) more r.few r.later k.tree.later op.later (Times r.part k.tree.part) (reads_then (reads_then r.read (reads_plain c.requires.nest k.tree.read)) (reads_star c.requires.nest op)) read (frees_then (read_frame r.row) k.tree.placed.frame) put.spends put.len (put.row _ _
+          (exprs_more (factor_trees r.part) (factor_tree k.tree.part)
+          (row_last c.loop-stop.nodes c.loop-stop.count (OfExpr (factor_tree k.tree.part)) c.factor.new.node (omega (arith, c.if-count-eq-FEW.true, i.nodes)) r.row k.tree.placed)));
     }
 
 pub factors-loop-stop-preserved : goal.factors-loop-stop-preserved
@@ -282,24 +269,15 @@ factors-loop-stop-preserved g t c =
     record {
       within = (omega (arith, i.within, k.tree.later, op.later), op.within);
       few = (omega (arith, i.few, c.if-count-eq-FEW.false), omega (arith, i.few, k.tree.later, op.later));
-      nodes = omega (arith, length-set c.loop-stop.nodes c.loop-stop.count c.factor.new.node, i.nodes);
+      nodes = length-set c.loop-stop.nodes c.loop-stop.count c.factor.new.node ∙ i.nodes;
       held = list_kept i.held k.tree.placed.frame;
       doubled = i.doubled;
       read = λ from old first.
           let r = i.read from old first in
-          let many = length_first c.loop-stop.nodes c.loop-stop.count (omega (arith, i.few, i.nodes)) in
-          let more = length_next c.loop-stop.nodes c.loop-stop.count c.factor.new.node (omega (arith, i.few, i.nodes)) in
-          let read = kid_read _ r.read.later k.tree.later r.spends k.spends (read_frame r.read.row) in
-          record {
-            read = record {
-              part = Times r.read.part k.tree.part;
-              read = reads_then r.read.read (reads_then (reads_plain c.requires.nest k.tree.read) (reads_star c.requires.nest op));
-              row = exprs_more (factor_trees r.read.part) (factor_tree k.tree.part)
-                  (row_next c.loop-stop.nodes c.loop-stop.count (OfExpr (factor_tree k.tree.part)) c.factor.new.node (omega (arith, i.few, i.nodes)) r.read.row k.tree.placed);
-            };
-            few = omega (arith, r.few, many, more, k.tree.later, op.later);
-            spends = asks_any (spends_more read (omega (arith, op.later)) (omega (arith, many, more, op.later)));
-          };
+          let read = kid_plain _ (kid_read _ r.later k.tree.later r.spends k.spends (read_frame r.row)) in
+          read_beside c.loop-stop.list (take c.loop-stop.count c.loop-stop.nodes) (take (c.loop-stop.count + 1) (set c.loop-stop.nodes c.loop-stop.count c.factor.new.node)) (length_next c.loop-stop.nodes c.loop-stop.count c.loop-stop.nodes c.factor.new.node refl (omega (arith, i.few, i.nodes))) r.few r.later k.tree.later op.later (Times r.part k.tree.part) (reads_then (reads_then r.read (reads_plain c.requires.nest k.tree.read)) (reads_star c.requires.nest op)) read
+          (exprs_more (factor_trees r.part) (factor_tree k.tree.part)
+          (row_next c.loop-stop.nodes c.loop-stop.count (OfExpr (factor_tree k.tree.part)) c.factor.new.node (omega (arith, i.few, i.nodes)) r.row k.tree.placed));
     }
 
 -- ---- Expressions
@@ -334,12 +312,10 @@ terms-loop-stop-init g t c =
       held = list.held c.args.a.now.memory;
       doubled = inl list.cap;
       read = λ from old first. record {
-        read = record {
-          part = OneTerm first.part;
-          read = first.read;
-          row = read_more (OfExpr (factors_tree first.part)) c.args.node.now (read_none (row_none old.memory c.new_in-list.result
-              (list.held old.memory) (list.list old.memory) (ap (λ (b : Block). b.size) list.block))) first.placed;
-        };
+        part = OneTerm first.part;
+        read = first.read;
+        row = read_more (OfExpr (factors_tree first.part)) c.args.node.now (read_none (row_none old.memory c.new_in-list.result
+            (list.held old.memory) (list.list old.memory) (ap (λ (b : Block). b.size) list.block))) first.placed;
         few = omega (arith, first.long, list.len);
         spends = asks_any (spends_more first.spends (omega arith) (omega (arith, list.len)));
       };
@@ -366,23 +342,22 @@ terms-with_more-requires-then-count-eq-FEW-clause-held g t c =
 pub terms-returns-in_err-stop-clause-spends : goal.terms-returns-in_err-stop-clause-spends
 terms-returns-in_err-stop-clause-spends g t c = λ from old first.
     let r = c.loop-stop.invariant.read from old first in
-    err_up_to _ _ _ _ c.from_residual.ensures (stops_then _ r.spends c.in_err-stop.ensures.spends (read_frame r.read.row)
-    (omega (arith, r.read.within)) (omega (arith, r.read.within, r.read.later)))
+    err_up_to _ _ _ _ c.from_residual.ensures (stops_then _ r.spends c.in_err-stop.ensures.spends (read_frame r.row)
+    (omega (arith, r.within)) (omega (arith, r.within, r.later)))
 
 pub terms-returns-in_err-stop-clause-text : goal.terms-returns-in_err-stop-clause-text
 terms-returns-in_err-stop-clause-text g t c = λ from old first.
     err_text ℕ (NoTermsIn c.args.deep c.args.src.now c.loop-stop.here) (NoTermsIn c.args.deep c.args.src.now from) _ _ c.from_residual.ensures
-    (λ no. refused_then (c.loop-stop.invariant.read from old first).read.read no) c.in_err-stop.ensures.text
+    (λ no. refused_then (c.loop-stop.invariant.read from old first).read no) c.in_err-stop.ensures.text
 
 pub terms-returns-in_err-sign-clause-spends : goal.terms-returns-in_err-sign-clause-spends
 terms-returns-in_err-sign-clause-spends g t c = λ from old first.
-    let i = c.loop-stop.invariant in
-    let r = i.read from old first in
+    let r = c.loop-stop.invariant.read from old first in
     let k = c.in_ok-stop.ensures in
-    let read = kid_read _ r.read.later k.tree.later r.spends k.spends (read_frame r.read.row) in
+    let read = kid_read _ r.later k.tree.later r.spends k.spends (read_frame r.row) in
     err_up_to _ _ _ _ c.from_residual-in_err-sign.ensures
-    (arena_stops _ (asks_of (asked_list (ATerm r.read.part c.loop-stop.minus) r.read.read 1 (inr (omega arith, 0, refl)))
-    (spends_then read c.in_err-sign.ensures.spends (frees_then (read_frame r.read.row) k.tree.placed.frame) (omega (arith, k.tree.within))
+    (arena_stops _ (asks_of (asked_list (ATerm r.part c.loop-stop.minus) r.read 1 (inr (omega arith, 0, refl)))
+    (spends_then read c.in_err-sign.ensures.spends (frees_then (read_frame r.row) k.tree.placed.frame) (omega (arith, k.tree.within))
     (omega (arith, k.tree.within)) (omega (arith, k.tree.within)))))
 
 pub terms-returns-in_err-all-clause-spends : goal.terms-returns-in_err-all-clause-spends
@@ -390,18 +365,17 @@ terms-returns-in_err-all-clause-spends g t c = λ from old first.
     let i = c.loop-stop.invariant in
     let r = i.read from old first in
     let k = c.in_ok-stop.ensures in
-    let many = length_first c.loop-stop.nodes c.loop-stop.count (omega (arith, i.few, i.nodes)) in
-    let more = length_next (set c.loop-stop.nodes c.loop-stop.count c.term.new.node) c.loop-stop.count c.sign.new.node (omega (arith, i.few, length-set c.loop-stop.nodes c.loop-stop.count c.term.new.node, i.nodes)) in
+    let more = length_next c.loop-stop.nodes c.loop-stop.count (set c.loop-stop.nodes c.loop-stop.count c.term.new.node) c.sign.new.node (length-set c.loop-stop.nodes c.loop-stop.count c.term.new.node) (omega (arith, i.few, i.nodes)) in
     let placed = c.in_ok-sign.ensures.tree (factors_tree k.tree.part) c.loop-stop.a.memory
     (subst (λ n. IsPlaced (factors_tree k.tree.part) c.loop-stop.a.memory c.term.new.a.memory n)
     (sym (get_or-set_same c.loop-stop.nodes c.loop-stop.count c.term.new.node _ (omega (arith, i.few, i.nodes)))) k.tree.placed) in
-    let read = kid_negated _ (kid_read _ r.read.later k.tree.later r.spends k.spends (read_frame r.read.row)) c.in_ok-sign.ensures.spends
-    (frees_then (read_frame r.read.row) k.tree.placed.frame) in
-    let long = read_length r.read.row in
-    err_up_to _ _ _ _ c.from_residual-in_err-all.ensures (arena_stops _ (asks_of (asked_few (ATerm r.read.part c.loop-stop.minus) r.read.read
-    (λ none. inl (omega (arith, none, long, many, i.held.within))) i.doubled (omega (arith, i.few, more)) i.held.within (omega (arith, long, many, more)))
-    (spends_then read c.in_err-all.ensures.spends (frees_then (read_frame r.read.row) placed.frame) (omega (arith, k.tree.within)) (omega (arith, many, more, k.tree.within))
-    (omega (arith, many, more, k.tree.within)))))
+    let read = kid_negated _ (kid_read _ r.later k.tree.later r.spends k.spends (read_frame r.row)) c.in_ok-sign.ensures.spends
+    (frees_then (read_frame r.row) k.tree.placed.frame) in
+    let long = read_length r.row in
+    err_up_to _ _ _ _ c.from_residual-in_err-all.ensures (arena_stops _ (asks_of (asked_few (ATerm r.part c.loop-stop.minus) r.read
+    (λ none. inl (omega (arith, none, long, more, length-take c.loop-stop.count c.loop-stop.nodes, i.few, i.nodes, i.held.within))) i.doubled (omega (arith, i.few, more, length-take c.loop-stop.count c.loop-stop.nodes, i.few, i.nodes)) i.held.within (omega (arith, long, more)))
+    (spends_then read c.in_err-all.ensures.spends (frees_then (read_frame r.row) placed.frame) (omega (arith, k.tree.within)) (omega (arith, more, k.tree.within))
+    (omega (arith, more, k.tree.within)))))
 
 pub terms-returns-in_default-clause-tree : goal.terms-returns-in_default-clause-tree
 terms-returns-in_default-clause-tree g t c = λ from old first.
@@ -412,23 +386,22 @@ terms-returns-in_default-clause-tree g t c = λ from old first.
     let placed = c.in_ok-sign.ensures.tree (factors_tree k.tree.part) c.loop-stop.a.memory
     (subst (λ n. IsPlaced (factors_tree k.tree.part) c.loop-stop.a.memory c.term.new.a.memory n)
     (sym (get_or-set_same c.loop-stop.nodes c.loop-stop.count c.term.new.node _ (omega (arith, i.few, i.nodes)))) k.tree.placed) in
-    let built = c.in_ok-all.ensures.row _ _ (terms_more c.loop-stop.minus r.read.part k.tree.part
-    (row_next (set c.loop-stop.nodes c.loop-stop.count c.term.new.node) c.loop-stop.count (OfExpr (signed_tree c.loop-stop.minus (factors_tree k.tree.part))) c.sign.new.node (omega (arith, i.few, length-set c.loop-stop.nodes c.loop-stop.count c.term.new.node, i.nodes)) (row_again c.loop-stop.nodes c.loop-stop.count c.term.new.node r.read.row) placed)) in
-    record { part = joined c.loop-stop.minus r.read.part k.tree.part; read = reads_terms c.loop-stop.minus r.read.part k.tree.part r.read.read k.tree.read; stopped = (k.tree.stopped, c.in_default.ensures.none); placed = terms_placed c.loop-stop.minus r.read.part k.tree.part built node.kind node.kids node.rest }
+    let built = c.in_ok-all.ensures.row _ _ (terms_more c.loop-stop.minus r.part k.tree.part
+    (row_next (set c.loop-stop.nodes c.loop-stop.count c.term.new.node) c.loop-stop.count (OfExpr (signed_tree c.loop-stop.minus (factors_tree k.tree.part))) c.sign.new.node (omega (arith, i.few, i.nodes, length-set c.loop-stop.nodes c.loop-stop.count c.term.new.node)) (row_again c.loop-stop.nodes c.loop-stop.count c.term.new.node r.row) placed)) in
+    record { part = joined c.loop-stop.minus r.part k.tree.part; read = reads_terms c.loop-stop.minus r.part k.tree.part r.read k.tree.read; stopped = (k.tree.stopped, c.in_default.ensures.none); placed = terms_placed c.loop-stop.minus r.part k.tree.part built node.kind node.kids node.rest }
 
 pub terms-returns-in_default-clause-spends : goal.terms-returns-in_default-clause-spends
 terms-returns-in_default-clause-spends g t c = λ from old first.
     let i = c.loop-stop.invariant in
     let r = i.read from old first in
     let k = c.in_ok-stop.ensures in
-    let many = length_first c.loop-stop.nodes c.loop-stop.count (omega (arith, i.few, i.nodes)) in
-    let more = length_next (set c.loop-stop.nodes c.loop-stop.count c.term.new.node) c.loop-stop.count c.sign.new.node (omega (arith, i.few, length-set c.loop-stop.nodes c.loop-stop.count c.term.new.node, i.nodes)) in
+    let more = length_next c.loop-stop.nodes c.loop-stop.count (set c.loop-stop.nodes c.loop-stop.count c.term.new.node) c.sign.new.node (length-set c.loop-stop.nodes c.loop-stop.count c.term.new.node) (omega (arith, i.few, i.nodes)) in
     let placed = c.in_ok-sign.ensures.tree (factors_tree k.tree.part) c.loop-stop.a.memory
     (subst (λ n. IsPlaced (factors_tree k.tree.part) c.loop-stop.a.memory c.term.new.a.memory n)
     (sym (get_or-set_same c.loop-stop.nodes c.loop-stop.count c.term.new.node _ (omega (arith, i.few, i.nodes)))) k.tree.placed) in
-    let read = kid_negated _ (kid_read _ r.read.later k.tree.later r.spends k.spends (read_frame r.read.row)) c.in_ok-sign.ensures.spends
-    (frees_then (read_frame r.read.row) k.tree.placed.frame) in
-    asks_any (spends_then read c.in_ok-all.ensures.spends (frees_then (read_frame r.read.row) placed.frame) (omega arith) (omega (arith, many, more)) (omega (arith, many, more)))
+    let read = kid_negated _ (kid_read _ r.later k.tree.later r.spends k.spends (read_frame r.row)) c.in_ok-sign.ensures.spends
+    (frees_then (read_frame r.row) k.tree.placed.frame) in
+    asks_any (spends_then read c.in_ok-all.ensures.spends (frees_then (read_frame r.row) placed.frame) (omega arith) (omega (arith, more)) (omega (arith, more)))
 
 pub terms-returns-in_err-list-clause-spends : goal.terms-returns-in_err-list-clause-spends
 terms-returns-in_err-list-clause-spends g t c = λ from old first.
@@ -436,22 +409,19 @@ terms-returns-in_err-list-clause-spends g t c = λ from old first.
     let r = i.read from old first in
     let k = c.in_ok-stop.ensures in
     let op = c.in-Some.ensures.some in
-    let many = length_first c.loop-stop.nodes c.loop-stop.count (omega (arith, i.few, i.nodes)) in
+    let more = length_last c.loop-stop.nodes c.loop-stop.count (set c.loop-stop.nodes c.loop-stop.count c.term.new.node) c.sign.new.node (length-set c.loop-stop.nodes c.loop-stop.count c.term.new.node) (omega (arith, c.if-count-eq-FEW.true, i.nodes)) in
     let placed = c.in_ok-sign.ensures.tree (factors_tree k.tree.part) c.loop-stop.a.memory
     (subst (λ n. IsPlaced (factors_tree k.tree.part) c.loop-stop.a.memory c.term.new.a.memory n)
     (sym (get_or-set_same c.loop-stop.nodes c.loop-stop.count c.term.new.node _ (omega (arith, i.few, i.nodes)))) k.tree.placed) in
-    let read = kid_negated _ (kid_read _ r.read.later k.tree.later r.spends k.spends (read_frame r.read.row)) c.in_ok-sign.ensures.spends
-    (frees_then (read_frame r.read.row) k.tree.placed.frame) in
-    let full : length (set (set c.loop-stop.nodes c.loop-stop.count c.term.new.node) c.loop-stop.count c.sign.new.node) ≡ 4 = omega (arith, length-set (set c.loop-stop.nodes c.loop-stop.count c.term.new.node) c.loop-stop.count c.sign.new.node, length-set c.loop-stop.nodes c.loop-stop.count c.term.new.node, i.nodes) in
-    let long = read_length r.read.row in
-    let longer = read_length (terms_more c.loop-stop.minus r.read.part k.tree.part
-    (row_last (set c.loop-stop.nodes c.loop-stop.count c.term.new.node) c.loop-stop.count (OfExpr (signed_tree c.loop-stop.minus (factors_tree k.tree.part))) c.sign.new.node (omega (arith, c.if-count-eq-FEW.true, length-set c.loop-stop.nodes c.loop-stop.count c.term.new.node, i.nodes)) (row_again c.loop-stop.nodes c.loop-stop.count c.term.new.node r.read.row) placed)) in
-    err_up_to _ _ _ _ c.from_residual-in_err-list.ensures (arena_stops _ (asks_of (asked_few (ATerm (joined c.loop-stop.minus r.read.part k.tree.part) c.in-Some.less)
-    (reads_then (reads_terms c.loop-stop.minus r.read.part k.tree.part r.read.read k.tree.read)
-    (reads_sign c.requires.nest c.in-Some.less op))
-    (λ none. inr (omega (arith, none, longer, full, i.held.within), 3, refl)) i.doubled (omega (arith, full)) i.held.within (omega (arith, longer, full)))
-    (spends_then read c.in_err-list.ensures.spends (frees_then (read_frame r.read.row) placed.frame) (omega (arith, op.within)) (omega (arith, many, full, c.if-count-eq-FEW.true, op.within))
-    (omega (arith, many, full, c.if-count-eq-FEW.true, op.within)))))
+    let read = kid_negated _ (kid_read _ r.later k.tree.later r.spends k.spends (read_frame r.row)) c.in_ok-sign.ensures.spends
+    (frees_then (read_frame r.row) k.tree.placed.frame) in
+    let long = read_length (terms_more c.loop-stop.minus r.part k.tree.part
+    (row_last (set c.loop-stop.nodes c.loop-stop.count c.term.new.node) c.loop-stop.count (OfExpr (signed_tree c.loop-stop.minus (factors_tree k.tree.part))) c.sign.new.node (omega (arith, c.if-count-eq-FEW.true, i.nodes, length-set c.loop-stop.nodes c.loop-stop.count c.term.new.node)) (row_again c.loop-stop.nodes c.loop-stop.count c.term.new.node r.row) placed)) in
+    let full = length-take c.loop-stop.count c.loop-stop.nodes in
+    err_up_to _ _ _ _ c.from_residual-in_err-list.ensures (arena_stops _ (asks_of (asked_few (ATerm (joined c.loop-stop.minus r.part k.tree.part) c.in-Some.less) (reads_then (reads_terms c.loop-stop.minus r.part k.tree.part r.read k.tree.read) (reads_sign c.requires.nest c.in-Some.less op))
+    (λ none. inr (omega (arith, none, long, more, full, c.if-count-eq-FEW.true, i.nodes, i.held.within), 3, refl)) i.doubled
+    (omega (arith, more, full, c.if-count-eq-FEW.true, i.nodes)) i.held.within (omega (arith, long)))
+    (spends_then read c.in_err-list.ensures.spends (frees_then (read_frame r.row) placed.frame) (omega (arith, op.within)) (omega (arith, more, op.within)) (omega (arith, more, op.within)))))
 
 pub terms-loop-stop-preserved-then-count-eq-FEW : goal.terms-loop-stop-preserved-then-count-eq-FEW
 terms-loop-stop-preserved-then-count-eq-FEW g t c =
@@ -459,7 +429,9 @@ terms-loop-stop-preserved-then-count-eq-FEW g t c =
     let k = c.in_ok-stop.ensures in
     let op = c.in-Some.ensures.some in
     let put = c.in_ok-list.ensures in
-    let full : length (set (set c.loop-stop.nodes c.loop-stop.count c.term.new.node) c.loop-stop.count c.sign.new.node) ≡ 4 = omega (arith, length-set (set c.loop-stop.nodes c.loop-stop.count c.term.new.node) c.loop-stop.count c.sign.new.node, length-set c.loop-stop.nodes c.loop-stop.count c.term.new.node, i.nodes) in
+    let more = length_last c.loop-stop.nodes c.loop-stop.count (set c.loop-stop.nodes c.loop-stop.count c.term.new.node) c.sign.new.node (length-set c.loop-stop.nodes c.loop-stop.count c.term.new.node) (omega (arith, c.if-count-eq-FEW.true, i.nodes)) in
+    let full : length (set (set c.loop-stop.nodes c.loop-stop.count c.term.new.node) c.loop-stop.count c.sign.new.node) ≡ 4
+    = omega (arith, more, length-take c.loop-stop.count c.loop-stop.nodes, c.if-count-eq-FEW.true, i.nodes) in
     record {
       within = (omega (arith, i.within, k.tree.later, op.later), op.within);
       few = (omega arith, omega (arith, i.few, put.len, full, k.tree.later, op.later, c.if-count-eq-FEW.true));
@@ -469,24 +441,14 @@ terms-loop-stop-preserved-then-count-eq-FEW g t c =
           (put.cap 2 3 full refl (subst (λ many. IsDoubled many c.loop-stop.list.raw.cap) (sym full) i.doubled));
       read = λ from old first.
           let r = i.read from old first in
-          let many = length_first c.loop-stop.nodes c.loop-stop.count (omega (arith, i.few, i.nodes)) in
           let placed = c.in_ok-sign.ensures.tree (factors_tree k.tree.part) c.loop-stop.a.memory
           (subst (λ n. IsPlaced (factors_tree k.tree.part) c.loop-stop.a.memory c.term.new.a.memory n)
           (sym (get_or-set_same c.loop-stop.nodes c.loop-stop.count c.term.new.node _ (omega (arith, i.few, i.nodes)))) k.tree.placed) in
-          let read = kid_negated _ (kid_read _ r.read.later k.tree.later r.spends k.spends (read_frame r.read.row)) c.in_ok-sign.ensures.spends
-          (frees_then (read_frame r.read.row) k.tree.placed.frame) in
-          record {
-            read = record {
-              part = joined c.loop-stop.minus r.read.part k.tree.part;
-              read = reads_then (reads_terms c.loop-stop.minus r.read.part k.tree.part r.read.read k.tree.read)
-                  (reads_sign c.requires.nest c.in-Some.less op);
-              row = read_none (put.row _ _ (terms_more c.loop-stop.minus r.read.part k.tree.part
-                  (row_last (set c.loop-stop.nodes c.loop-stop.count c.term.new.node) c.loop-stop.count (OfExpr (signed_tree c.loop-stop.minus (factors_tree k.tree.part))) c.sign.new.node (omega (arith, c.if-count-eq-FEW.true, length-set c.loop-stop.nodes c.loop-stop.count c.term.new.node, i.nodes)) (row_again c.loop-stop.nodes c.loop-stop.count c.term.new.node r.read.row) placed)));
-            };
-            few = omega (arith, r.few, put.len, many, full, c.if-count-eq-FEW.true, k.tree.later, op.later);
-            spends = asks_any (spends_then read put.spends (frees_then (read_frame r.read.row) placed.frame) (omega (arith, op.later)) (omega (arith, many, full, c.if-count-eq-FEW.true, op.later))
-                (omega (arith, many, full, c.if-count-eq-FEW.true, op.later)));
-          };
+          let read = kid_negated _ (kid_read _ r.later k.tree.later r.spends k.spends (read_frame r.row)) c.in_ok-sign.ensures.spends
+          (frees_then (read_frame r.row) k.tree.placed.frame) in
+          read_into c.loop-stop.list (take c.loop-stop.count c.loop-stop.nodes) (set (set c.loop-stop.nodes c.loop-stop.count c.term.new.node) c.loop-stop.count c.sign.new.node) more r.few r.later k.tree.later op.later (joined c.loop-stop.minus r.part k.tree.part) (reads_then (reads_terms c.loop-stop.minus r.part k.tree.part r.read k.tree.read) (reads_sign c.requires.nest c.in-Some.less op)) read (frees_then (read_frame r.row) placed.frame) put.spends put.len (put.row _ _
+          (terms_more c.loop-stop.minus r.part k.tree.part
+          (row_last (set c.loop-stop.nodes c.loop-stop.count c.term.new.node) c.loop-stop.count (OfExpr (signed_tree c.loop-stop.minus (factors_tree k.tree.part))) c.sign.new.node (omega (arith, c.if-count-eq-FEW.true, i.nodes, length-set c.loop-stop.nodes c.loop-stop.count c.term.new.node)) (row_again c.loop-stop.nodes c.loop-stop.count c.term.new.node r.row) placed)));
     }
 
 pub terms-loop-stop-preserved : goal.terms-loop-stop-preserved
@@ -505,19 +467,9 @@ terms-loop-stop-preserved g t c =
       doubled = i.doubled;
       read = λ from old first.
           let r = i.read from old first in
-          let many = length_first c.loop-stop.nodes c.loop-stop.count (omega (arith, i.few, i.nodes)) in
-          let more = length_next (set c.loop-stop.nodes c.loop-stop.count c.term.new.node) c.loop-stop.count c.sign.new.node (omega (arith, i.few, length-set c.loop-stop.nodes c.loop-stop.count c.term.new.node, i.nodes)) in
-          let read = kid_negated _ (kid_read _ r.read.later k.tree.later r.spends k.spends (read_frame r.read.row)) c.in_ok-sign.ensures.spends
-          (frees_then (read_frame r.read.row) k.tree.placed.frame) in
-          record {
-            read = record {
-              part = joined c.loop-stop.minus r.read.part k.tree.part;
-              read = reads_then (reads_terms c.loop-stop.minus r.read.part k.tree.part r.read.read k.tree.read)
-                  (reads_sign c.requires.nest c.in-Some.less op);
-              row = terms_more c.loop-stop.minus r.read.part k.tree.part
-                  (row_next (set c.loop-stop.nodes c.loop-stop.count c.term.new.node) c.loop-stop.count (OfExpr (signed_tree c.loop-stop.minus (factors_tree k.tree.part))) c.sign.new.node (omega (arith, i.few, length-set c.loop-stop.nodes c.loop-stop.count c.term.new.node, i.nodes)) (row_again c.loop-stop.nodes c.loop-stop.count c.term.new.node r.read.row) placed);
-            };
-            few = omega (arith, r.few, many, more, k.tree.later, op.later);
-            spends = asks_any (spends_more read (omega (arith, op.later)) (omega (arith, many, more, op.later)));
-          };
+          let read = kid_negated _ (kid_read _ r.later k.tree.later r.spends k.spends (read_frame r.row)) c.in_ok-sign.ensures.spends
+          (frees_then (read_frame r.row) k.tree.placed.frame) in
+          read_beside c.loop-stop.list (take c.loop-stop.count c.loop-stop.nodes) (take (c.loop-stop.count + 1) (set (set c.loop-stop.nodes c.loop-stop.count c.term.new.node) c.loop-stop.count c.sign.new.node)) (length_next c.loop-stop.nodes c.loop-stop.count (set c.loop-stop.nodes c.loop-stop.count c.term.new.node) c.sign.new.node (length-set c.loop-stop.nodes c.loop-stop.count c.term.new.node) (omega (arith, i.few, i.nodes))) r.few r.later k.tree.later op.later (joined c.loop-stop.minus r.part k.tree.part) (reads_then (reads_terms c.loop-stop.minus r.part k.tree.part r.read k.tree.read) (reads_sign c.requires.nest c.in-Some.less op)) read
+          (terms_more c.loop-stop.minus r.part k.tree.part
+          (row_next (set c.loop-stop.nodes c.loop-stop.count c.term.new.node) c.loop-stop.count (OfExpr (signed_tree c.loop-stop.minus (factors_tree k.tree.part))) c.sign.new.node (omega (arith, i.few, i.nodes, length-set c.loop-stop.nodes c.loop-stop.count c.term.new.node)) (row_again c.loop-stop.nodes c.loop-stop.count c.term.new.node r.row) placed));
     }

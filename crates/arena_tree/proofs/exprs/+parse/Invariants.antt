@@ -49,7 +49,7 @@ invariant-terms-loop-stop g l = record {
   held : IsVecIn node_item l.a.memory l.list;
   doubled : IsDoubled 4 l.list.raw.cap;
   read : (from : ℕ) (old : View) → IsFirstTerm l.first l.deep l.src from l.at old l.fn.a l.fn.node
-      → TermsRead l.deep l.src from l.here l.minus old l.a l.list (take l.count l.nodes);
+      → TermsRead l.minus l.deep l.src from l.here old l.a l.list (take l.count l.nodes);
 }
 
 abbrev pub decreases-terms-loop-stop : goal.decreases-terms-loop-stop
