@@ -1,5 +1,5 @@
 -- Children whose nodes are gathered before they go into a list.
-use Rattle.std.proofs.Common.{◌≡◌, ℕ, ◌+◌, ◌-◌, ◌*◌, ◌<◌, ◌≤◌, Bool, sym, subst, refl, inl, List, [], ◌∷◌, ◌++◌, length, length-set, length-take, take, set, arith, Ok, None}
+use Rattle.std.proofs.Common.{◌≡◌, ℕ, ◌+◌, ◌-◌, ◌*◌, ◌<◌, ◌≤◌, Bool, sym, subst, List, [], ◌∷◌, ◌++◌, length, length-set, length-take, take, set, arith, Ok, None}
 use Rattle.std.proofs.lemmas.List.{take_all, take-set, take_more_set}
 use Rattle.arena_chunks.specs.Memory.{Memory}
 use Rattle.arena_chunks.specs.Frame.{Frame}

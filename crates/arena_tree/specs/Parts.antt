@@ -1,10 +1,9 @@
 -- Parts of a text that were read, and what was placed for them.
 use Rattle.std.specs.Prelude.{◌≡◌, ℕ, ◌<◌, ◌≤◌, Bool, true, false, None, List, [], ◌∷◌, length, slice_range}
 use Rattle.arena_chunks.specs.Memory.{Memory}
-use Rattle.arena_vec.specs.declared.vec.Vec.{Vec}
 use Rattle.tree_rules.specs.Tokens.{Token, Word, Number, Plus, Minus, Star, LeftParen, Placed, without_places}
 use Rattle.tree_rules.specs.Trees.{Expr, Neg}
-use Rattle.tree_rules.specs.Grammar.{Factors, Terms, spell_factor, spell_factors, spell_terms, factor_tree, factors_tree, factor_trees, terms_tree, term_trees}
+use Rattle.tree_rules.specs.Grammar.{spell_factor, spell_factors, spell_terms, factor_tree, factors_tree, terms_tree}
 use Rattle.tree_rules.specs.Reading.{State, state, signs_ended, is_too_big, refusal_from}
 use Rattle.tree_rules.specs.declared.machine.Open.{Open}
 use Rattle.tree_rules.specs.declared.machine.Open.TheVariants.{Paren}

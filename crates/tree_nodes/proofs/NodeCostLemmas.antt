@@ -1,6 +1,6 @@
 -- What it costs to append nodes to a list.
-use Rattle.std.proofs.Common.{◌≡◌, ℕ, suc, ◌+◌, ◌-◌, ◌*◌, ◌^◌, ◌<◌, ◌≤◌, refl, sym, ap, subst, ◌∙◌, arith, IsTrue, Ok, Err, List, [], ◌∷◌, ◌++◌, length, length-append, ◌⊎◌, inl, inr, max, None}
-use Rattle.std.proofs.Math.Nat.{one-le-pow, pow-suc}
+use Rattle.std.proofs.Common.{◌≡◌, ℕ, suc, ◌+◌, ◌-◌, ◌*◌, ◌^◌, ◌<◌, ◌≤◌, refl, sym, ap, subst, ◌∙◌, arith, IsTrue, Ok, Err, List, [], ◌++◌, length, length-append, ◌⊎◌, inl, inr, max, None}
+use Rattle.std.proofs.Math.Nat.{pow-suc}
 use Rattle.std.proofs.lemmas.Bool.{cases_lt}
 use Rattle.std.specs.Prelude.{Result, Option, IfOk, OnOk, OnErr}
 use Rattle.arena_rules.specs.Rounding.{is_layout}

@@ -1,4 +1,4 @@
-use Rattle.std.proofs.Common.{◌+◌, sym, subst, Ok, Err, ◌∙◌, arith}
+use Rattle.std.proofs.Common.{sym, subst, Ok, Err, ◌∙◌, arith}
 use Rattle.arena_items.proofs.Layers.{length-elements}
 use Rattle.arena_vec.specs.Vecs.{vec_list}
 use Rattle.tree_nodes.specs.Layouts.{IsDoubled}

@@ -1,4 +1,4 @@
-use Rattle.std.proofs.Common.{◌+◌, arith}
+use Rattle.std.proofs.Common.{arith}
 use Rattle.tree_nodes.proofs.RowLemmas.{read_all}
 use Rattle.tree_nodes.proofs.NodeCostLemmas.{list_spends}
 use Rattle.tree_nodes.proofs.build.with_more.Goals as goal
