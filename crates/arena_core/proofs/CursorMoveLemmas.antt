@@ -1,25 +1,26 @@
 -- Blocks at the cursor that are resized in place.
 use Rattle.std.proofs.Common.{◌≡◌, ℕ, ◌+◌, ◌-◌, ◌%◌, ◌<◌, ◌≤◌, max, min, ap, refl, subst, ◌∙◌, arith, IsTrue, Some}
 use Rattle.arena_rules.specs.Rounding.{down, up, is_layout}
-use Rattle.arena_rules.specs.State.{IsValid, is_range_used, start_of, cursor_of, top_of, with_cursor}
-use Rattle.arena_rules.specs.Search.{place}
+use Rattle.arena_rules.specs.State.{State, IsValid, is_range_used, start_of, cursor_of, with_cursor}
+use Rattle.arena_rules.specs.Search.{place_below}
 use Rattle.arena_rules.specs.Moves.{growing, shrinking, shrink_step}
 use Rattle.arena_rules.specs.Moves.Resizing.{Stays, Moves}
 use Rattle.arena_rules.specs.Statistics.{one_reallocation}
 use Rattle.arena_rules.proofs.RoundingLemmas.{down_le, up_ge, layout_power, min_align_positive}
 use Rattle.arena_rules.proofs.PlaceLemmas.{is_place}
-use Rattle.arena_rules.proofs.CursorLemmas.{start_positive, cursor_within}
+use Rattle.arena_rules.proofs.CursorLemmas.{start_positive, cursor_within, valid_moved}
 use Rattle.arena_rules.proofs.UsedLemmas.{used_from, used_part}
 use Rattle.arena_rules.proofs.MoveLemmas.{step_aligned}
-use Rattle.arena_store.specs.Memory.{Memory, image, is_readable, bytes_from, written, Writes}
+use Rattle.arena_rules.proofs.ResizeSteps.{IsHere, grows_down}
+use Rattle.arena_store.specs.Memory.{Memory, image, is_readable, bytes_from, Writes}
 use Rattle.arena_store.specs.Source.{Source, view}
 use Rattle.arena_core.specs.Answers.Answer.{Placed}
 use Rattle.arena_core.specs.BlockCalls.{ResizesAfter}
-use Rattle.arena_core.specs.Resizes.{IsResizedUnasked}
+use Rattle.arena_core.specs.Resizes.{FitsBelow, IsMovedDown, IsResizedUnasked}
 use Rattle.arena_store.specs.declared.block.Block.{Block}
 use Rattle.arena_core.specs.declared.arena.Arena.TheInside.{Inside}
-use Rattle.arena_core.proofs.StoredLemmas.{view_of, Stands}
-use Rattle.arena_core.proofs.FrameLemmas.{bytes_moved, byte_moved}
+use Rattle.arena_core.proofs.StoredLemmas.{view_of, Stands, IsCursor, place_stored}
+use Rattle.arena_core.proofs.FrameLemmas.{byte_moved}
 use Rattle.arena_core.proofs.LastLemmas.{IsLast, is_last, last_ends}
 use Rattle.arena_core.proofs.ResizedLemmas.{block_in, resized_still, MovesCursor, resized_at_cursor, grown_aligned, resized_unasked}
 
@@ -67,57 +68,66 @@ shrunk m old mid new block size align delta is same bytes moved = record {
   bytes = λ p. ap (λ (w : Memory). image w p) moved ∙ byte_moved (block.addr + delta) mid.state.chunks mid.bytes p ∙ bytes p;
 }
 
-pub record IsGrown (memory : Memory) (block : Block) (size q : ℕ) : Type 0 where
+pub record IsGrown (memory : Memory) (block : Block) (size align q : ℕ) : Type 0 where
   pub valid : IsValid memory.state
   pub at : block.addr ≡ cursor_of memory.state.chunks
-  pub ends : block.addr + block.size ≤ top_of memory.state.chunks
-  pub low : start_of memory.state.chunks ≤ q
-  pub below : q ≤ block.addr
+  pub way : growing memory.state block.addr block.size block.align size align ≡ Moves q
+  pub below : FitsBelow memory.state q block.size
   pub fits : q + size ≤ block.addr + block.size
-  pub aligned : q % memory.state.min_align ≡ 0
 
-pub is_grown : (memory : Memory) (block : Block) (size q : ℕ) → IsValid memory.state → IsTrue (is_readable memory.state block)
-    → block.addr ≡ cursor_of memory.state.chunks
-    → IsTrue (is_layout (up size memory.state.min_align - block.size) block.align)
-    → place memory.state (up size memory.state.min_align - block.size) block.align ≡ Some q → IsGrown memory block size q
-is_grown memory block size q valid readable at layout found =
-    let more : ℕ = up size memory.state.min_align - block.size in
-    let spot = is_place (start_of memory.state.chunks) (cursor_of memory.state.chunks) more block.align memory.state.min_align q
-    (start_positive memory.state valid) (layout_power more block.align layout) valid.min_align found in
+pub is_grown : (m : ℕ) (a : Inside m) (memory : Memory) (block : Block) (size align n unit q : ℕ) → Stands m a → view_of m a ≡ memory
+    → IsTrue (is_readable memory.state block) → IsHere memory.state block.addr block.size block.align size align
+    → n ≡ up size m - block.size → unit ≡ block.align → IsTrue (is_layout n unit)
+    → Some q ≡ place_below a.newest.base a.newest.cursor n unit m → IsGrown memory block size align q
+is_grown m a memory block size align n unit q stands view readable here more same layout found =
+    let valid = subst (λ (w : Memory). IsValid w.state) view stands.valid in
+    let of_rule : n ≡ up size memory.state.min_align - block.size = more ∙ ap (λ (w : Memory). up size w.state.min_align - block.size) view in
+    let at = place_stored m a memory n unit (Some q) stands view found in
+    let spot = is_place (start_of memory.state.chunks) (cursor_of memory.state.chunks) n unit memory.state.min_align q
+    (start_positive memory.state valid) (layout_power n unit layout) valid.min_align at in
     record {
       valid = valid;
-      at = at;
-      ends = last_ends memory.state block valid readable at;
-      low = spot.low;
-      below = omega (arith, spot.high, at);
-      fits = omega (arith, spot.high, at, up_ge size memory.state.min_align (min_align_positive memory.state.min_align valid.min_align));
-      aligned = spot.min_aligned;
+      at = here.at;
+      way = grows_down memory.state block.addr block.size block.align size align q here
+          (rw (← of_rule, ← same) layout) (rw (← of_rule, ← same) at);
+      below = record {
+        low = spot.low;
+        high = omega (arith, spot.high);
+        aligned = spot.min_aligned;
+        within = omega (arith, here.at, last_ends memory.state block valid readable here.at);
+      };
+      fits = omega (arith, spot.high, here.at, of_rule, up_ge size memory.state.min_align (min_align_positive memory.state.min_align valid.min_align));
     }
 
--- with the cursor there everything is in use up to the block's end
-pub grown_used : (memory : Memory) (block : Block) (size q p n : ℕ) → IsGrown memory block size q → q ≤ p → p + n ≤ block.addr + block.size
-    → 0 < n
-    → IsTrue (is_range_used (with_cursor q memory.state).chunks p n)
-grown_used memory block size q p n is low high some =
-    let whole : ℕ = block.addr + block.size - q in
-    used_part q whole p n (with_cursor q memory.state).chunks low (omega (arith, is.below))
-    (used_from q whole memory.state.chunks (omega arith) is.low (omega (arith, is.below, is.ends)))
+-- ---- Down
 
--- the cursor moved down, and then the bytes
-pub grown : (old mid new : Memory) (block : Block) (size q : ℕ) → IsGrown old block size q → block.size ≤ size
-    → mid ≡ record { state = with_cursor q old.state; statistics = old.statistics; bytes = old.bytes }
-    → new.state ≡ mid.state → Writes mid new q (bytes_from (image mid) block.addr block.size) → MovesCursor old new block q size block.size
-grown old mid new block size q is longer moved same bytes = record {
+pub is_below : (state : State) (q n : ℕ) → IsValid state → FitsBelow state q n → IsCursor state q
+is_below state q n valid fits = record {
+  low = fits.low;
+  high = omega (arith, fits.high, fits.within);
+  valid = valid_moved state q valid fits.low fits.high fits.aligned;
+}
+
+-- with the cursor there everything is in use up to the end of the bytes that move
+pub below_used : (state : State) (q n p k : ℕ) → FitsBelow state q n → q ≤ p → p + k ≤ cursor_of state.chunks + n → 0 < k
+    → IsTrue (is_range_used (with_cursor q state).chunks p k)
+below_used state q n p k fits low high some =
+    let whole : ℕ = cursor_of state.chunks + n - q in
+    used_part q whole p k (with_cursor q state).chunks low (omega (arith, fits.high))
+    (used_from q whole state.chunks (omega arith) fits.low (omega (arith, fits.high, fits.within)))
+
+pub grown : (old new : Memory) (block : Block) (size align q : ℕ) → IsGrown old block size align q → block.size ≤ size
+    → IsMovedDown old new q block.size → MovesCursor old new block q size block.size
+grown old new block size align q is longer moved = record {
   valid = is.valid;
   at = is.at;
-  ends = is.ends;
-  low = is.low;
-  aligned = is.aligned;
+  ends = omega (arith, is.at, is.below.within);
+  low = is.below.low;
+  aligned = is.below.aligned;
   fits = is.fits;
   shorter = longer;
-  state = same ∙ ap (λ (w : Memory). w.state) moved;
-  bytes = subst (λ (f : ℕ → ℕ). (a : ℕ) → image new a ≡ written f q (bytes_from f block.addr block.size) a)
-      (ap image moved ∙ bytes_moved q old.state.chunks old.bytes) bytes;
+  state = moved.state;
+  bytes = rw is.at moved.bytes;
 }
 
 -- ---- Shrinking without a request
@@ -138,36 +148,23 @@ shrunk_still memory block size align valid readable smaller way =
       resizes = rw all (resized_still memory block size align size valid readable smaller);
     })
 
--- the block moves down together with the cursor
-pub grown_down : (old mid new : Memory) (block : Block) (size align q : ℕ) → IsGrown old block size q → block.size ≤ size
-    → mid ≡ record { state = with_cursor q old.state; statistics = old.statistics; bytes = old.bytes }
-    → new.state ≡ mid.state → new.statistics ≡ one_reallocation mid.statistics
-    → Writes mid new q (bytes_from (image mid) block.addr block.size)
-    → IsResizedUnasked (Moves q) old new block size align (block_in old.state q size align)
-grown_down old mid new block size align q is longer moved same statistics bytes =
-    let all : min block.size size ≡ block.size = omega arith in
-    let moves = grown old mid new block size q is longer moved same bytes in
-    record {
-      entry = is.valid;
-      step = rw moves.state refl;
-      unasked = refl;
-      statistics = statistics ∙ ap (λ (w : Memory). one_reallocation w.statistics) moved;
-      resizes = rw all (resized_at_cursor old new block q size align block.size moves);
-    }
-
--- that is the rule's result for a block that grows there
-pub grown_answer : (old mid new : Memory) (source : Source) (block b : Block) (size align q : ℕ) → IsGrown old block size q
+-- the block moves down together with the cursor: the rule's result for a block that grows there
+pub grown_answer : (old new : Memory) (source : Source) (block b : Block) (size align q : ℕ) → IsGrown old block size align q
     → block.size ≤ size → IsTrue (is_layout size align)
-    → growing old.state block.addr block.size block.align size align ≡ Moves q
-    → mid ≡ record { state = with_cursor q old.state; statistics = old.statistics; bytes = old.bytes }
-    → new.state ≡ mid.state → new.statistics ≡ one_reallocation mid.statistics
-    → Writes mid new q (bytes_from (image mid) block.addr block.size) → b ≡ block_in mid.state q size align
+    → IsMovedDown old new q block.size → b ≡ block_in new.state q size align
     → ResizesAfter (growing old.state block.addr block.size block.align size align) (view old source) (view new source) block size align 0
     (Placed b)
-grown_answer old mid new source block b size align q down longer layout way moved same statistics bytes answer =
-    let block_is : b ≡ block_in old.state q size align = answer ∙ ap (λ (w : Memory). block_in w.state q size align) moved in
+grown_answer old new source block b size align q down longer layout moved answer =
+    let all : min block.size size ≡ block.size = omega arith in
+    let moves = grown old new block size align q down longer moved in
     let is : IsResizedUnasked (growing old.state block.addr block.size block.align size align) old new block size align b =
-    rw (way, block_is) (grown_down old mid new block size align q down longer moved same statistics bytes) in
+    rw (down.way, answer ∙ ap (λ (s : State). block_in s q size align) moved.state) (record {
+      entry = down.valid;
+      step = rw moved.state refl;
+      unasked = refl;
+      statistics = moved.statistics;
+      resizes = rw all (resized_at_cursor old new block q size align block.size moves);
+    }) in
     resized_unasked (growing old.state block.addr block.size block.align size align) old new source block size align b
     (grown_aligned old.state new.state block size align b is.entry layout is.resizes.of_layout.of_align is.step) is
 

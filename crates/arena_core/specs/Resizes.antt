@@ -1,10 +1,10 @@
 -- A block in place of another, whatever is requested for it; and what a reset ends.
-use Rattle.std.specs.Prelude.{◌≡◌, ℕ, ◌-◌, ◌^◌, ◌<◌, nat_lt, min, if◌then◌else◌, Some, None, [], ◌∷◌, false}
-use Rattle.arena_rules.specs.State.{State, IsValid}
+use Rattle.std.specs.Prelude.{◌≡◌, ℕ, ◌+◌, ◌-◌, ◌^◌, ◌%◌, ◌<◌, ◌≤◌, nat_lt, min, if◌then◌else◌, Some, None, [], ◌∷◌, false}
+use Rattle.arena_rules.specs.State.{State, IsValid, start_of, cursor_of, top_of, with_cursor}
 use Rattle.arena_rules.specs.Moves.{Resizing, resize, anew}
-use Rattle.arena_rules.specs.Statistics.{Statistics, resized}
+use Rattle.arena_rules.specs.Statistics.{Statistics, one_reallocation, resized}
 use Rattle.arena_rules.specs.Causes.{counted}
-use Rattle.arena_store.specs.Memory.{Memory, is_readable, image, bytes_from}
+use Rattle.arena_store.specs.Memory.{Memory, Writes, is_readable, image, bytes_from}
 use Rattle.arena_core.specs.Frame.{Frame}
 use Rattle.arena_core.specs.BlockCalls.{IsBlockOf}
 use Rattle.arena_store.specs.declared.block.Block.{Block}
@@ -23,6 +23,19 @@ pub record IsResizedUnasked (way : Resizing) (old new : Memory) (block : Block) 
   pub unasked : anew way (size, align) ≡ None
   pub statistics : new.statistics ≡ resized way old.statistics
   pub resizes : Resizes old new block b size align (min block.size size)
+
+-- the cursor can go down to an address, with the n bytes that begin at it
+pub record FitsBelow (state : State) (addr n : ℕ) : Type 0 where
+  pub low : start_of state.chunks ≤ addr
+  pub high : addr ≤ cursor_of state.chunks
+  pub aligned : addr % state.min_align ≡ 0
+  pub within : cursor_of state.chunks + n ≤ top_of state.chunks
+
+-- it is there, with these bytes, and a reallocation is counted
+pub record IsMovedDown (old new : Memory) (addr n : ℕ) : Type 0 where
+  pub state : new.state ≡ with_cursor addr old.state
+  pub statistics : new.statistics ≡ one_reallocation old.statistics
+  pub bytes : Writes old new addr (bytes_from (image old) (cursor_of old.state.chunks) n)
 
 -- a block was allocated again in place of another, where the count already has the new block
 abbrev pub replaced : Statistics → Statistics

@@ -22,7 +22,7 @@ impl<const MIN_ALIGN: usize> Arena<MIN_ALIGN> {
     ghost use Rattle.arena_store.specs.Source.{view};
     ghost use Rattle.arena_core.specs.Answers.{answer_of, OnCounted, at_cursor};
     ghost use Rattle.arena_core.specs.BlockCalls.{GrowsBlock, ShrinksBlock, ResizesAfter, growing_of, shrinking_of};
-    ghost use Rattle.arena_core.specs.Resizes.{IsResizedUnasked, replaced};
+    ghost use Rattle.arena_core.specs.Resizes.{FitsBelow, IsMovedDown, IsResizedUnasked, replaced};
 
     /// Shrinks a block, which may move it. Its first bytes are kept. If the alignment doesn't rise, this allocates
     /// nothing and can't fail.
@@ -125,8 +125,8 @@ impl<const MIN_ALIGN: usize> Arena<MIN_ALIGN> {
             MIN_ALIGN as u64,
         ) {
             Some(addr) => {
-                self.newest.set_cursor(addr);
-                Ok((self.move_down(block, addr, layout), 0))
+                self.move_down(addr, block.size);
+                Ok((self.block_of(addr, layout), 0))
             }
             None => {
                 // A copy for the out-of-line call, so that the block itself stays in registers.
@@ -159,25 +159,39 @@ impl<const MIN_ALIGN: usize> Arena<MIN_ALIGN> {
         shrunk
     }
 
-    // Moves a block's bytes to an address in the newest chunk, where it gets another layout, and counts a reallocation.
+    // Moves the cursor down to an address, with the n bytes that begin at it, and counts a reallocation.
     #[inline(always)]
-    fn move_down(&mut self, block: Block, addr: u64, layout: Layout) -> Block
-        requires source { 0 < block.size → IsTrue (is_range_used self.old.state.chunks block.addr block.size) }
-        requires target { 0 < block.size → IsTrue (is_range_used self.old.state.chunks addr block.size) }
-        requires newest { (start_of self.old.state.chunks ≤ block.addr) × (start_of self.old.state.chunks ≤ addr) }
-        ensures state { self.new.state ≡ self.old.state }
-        ensures statistics { self.new.statistics ≡ one_reallocation self.old.statistics }
-        ensures bytes { Writes self.old self.new addr (bytes_from (image self.old) block.addr block.size) }
-        ensures block { result ≡ record {
-          generation = self.old.state.generation;
-          addr = addr;
-          size = layout.size;
-          align = layout.align;
-        } }
+    fn move_down(&mut self, addr: u64, n: u64)
+        requires { FitsBelow self.old.state addr n }
+        ensures { IsMovedDown self.old self.new addr n }
     {
+        if self.newest.is_untouched(addr) {
+            self.move_into_untouched(addr, n);
+        } else {
+            self.move_at_once(addr, n);
+        }
+    }
+
+    // Does so where the byte at the address isn't ready. It is kept out of line, so that no branches join before the
+    // other move: then the compiler still knows there how large the block may be.
+    #[cold]
+    #[inline(never)]
+    fn move_into_untouched(&mut self, addr: u64, n: u64)
+        requires { FitsBelow self.old.state addr n }
+        ensures { IsMovedDown self.old self.new addr n }
+    {
+        self.move_at_once(addr, n);
+    }
+
+    #[inline(always)]
+    fn move_at_once(&mut self, addr: u64, n: u64)
+        requires { FitsBelow self.old.state addr n }
+        ensures { IsMovedDown self.old self.new addr n }
+    {
+        let from = self.newest.cursor;
+        self.newest.set_cursor(addr);
         self.reallocations = self.reallocations.saturating_add(1);
-        self.move_in_newest(block.addr, addr, block.size);
-        self.block_of(addr, layout)
+        self.move_in_newest(from, addr, n);
     }
 
     // Allocates a block again, with the first n bytes of the old one.

@@ -1,5 +1,5 @@
 // A chunk with its bytes.
-ghost use Rattle.std.specs.Prelude.{◌≡◌, ℕ, ◌<◌, ◌^◌, [], ◌∷◌, ◌++◌, ◌==◌, if◌then◌else◌, vec_len, vec_capacity, length, take, drop, ◌≤◌, ◌+◌, ◌-◌, Some, None, nat_le, min};
+ghost use Rattle.std.specs.Prelude.{◌≡◌, ℕ, ◌<◌, ◌^◌, [], ◌∷◌, ◌++◌, ◌==◌, if◌then◌else◌, vec_len, vec_capacity, length, take, drop, ◌≤◌, ◌+◌, ◌-◌, Some, None, nat_lt, min};
 ghost use Rattle.std.specs.Borrow.{sem};
 ghost use Rattle.std.specs.List.{All, list_any, count_by};
 ghost use Rattle.arena_rules.specs.State.{used_length, is_used_by};
@@ -80,6 +80,14 @@ impl StoredChunk {
         ensures { result ≡ floor_in self.now }
     {
         self.base + self.bytes.low() as u64
+    }
+
+    /// Returns whether the byte at an address isn't ready.
+    pub fn is_untouched(&self, addr: u64) -> bool
+        requires { self.now.base ≤ addr }
+        ensures { result ≡ nat_lt addr (floor_in self.now) }
+    {
+        ((addr - self.base) as usize) < self.bytes.low()
     }
 
     /// Moves the cursor, and makes the bytes from there on ready.

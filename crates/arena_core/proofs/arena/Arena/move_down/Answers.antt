@@ -1,7 +1,7 @@
-use Rattle.std.proofs.Common.{ap, arith}
-use Rattle.arena_store.specs.Memory.{Memory}
+use Rattle.std.proofs.Common.{arith}
+use Rattle.arena_core.proofs.StoredLemmas.{start_stored}
 use Rattle.arena_core.proofs.arena.Arena.move_down.Goals as goal
 
-pub move_in_newest-requires : goal.move_in_newest-requires
-move_in_newest-requires g c =
-    rw (ap (λ (w : Memory). w.state.chunks) c.self.view_is) (omega arith, (c.requires.source, (c.requires.target, λ some. c.requires.newest)))
+pub is_untouched-requires : goal.is_untouched-requires
+is_untouched-requires g c =
+    omega (arith, c.requires.low, start_stored g.row.MIN_ALIGN c.self.inside c.args.self.now c.self.invariant c.self.view_is)
