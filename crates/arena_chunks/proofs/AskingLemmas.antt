@@ -112,67 +112,69 @@ made_some : (state : State) (size align k : ℕ) → IsFailed state size align k
 unfolding requests
 made_some state size align k failed some = rw (failed.none, failed.all) (simp (length-map, length-take) (omega arith))
 
--- If a growing arena has no place for a block, and some chunk may be asked for, the source has refused.
-alloc_starved : (old new : View) (size align k : ℕ) → IsValid old.memory.state → IsTrue (is_layout size align)
-    → 0 < length (asked old.memory.state size align) → (state : State)
-    → alloc old.memory.state size align k ≡ Some (record { answer = None; state = state })
-    → IsAsked old.source new.source k (alloc_requests old.memory.state size align k) → IsRefusedBySource old new
-alloc_starved old new size align k valid layout some state step asked =
-    let failed = alloc_failed old.memory.state state size align k valid (layout_power size align layout) step in
+-- a block was to be allocated, and there was no place for it
+abbrev IsUnplaced : View → View → ℕ → ℕ → Type 0
+IsUnplaced old new size align = (k : ℕ) × (alloc old.memory.state size align k ≡ Some (record { answer = None; state = old.memory.state }))
+    × IsAsked old.source new.source k (alloc_requests old.memory.state size align k) × IsValid old.memory.state
+
+-- If some chunk may be asked for, the source has refused.
+alloc_starved : (old new : View) (size align : ℕ) → IsTrue (is_layout size align) → 0 < length (asked old.memory.state size align)
+    → IsUnplaced old new size align → IsRefusedBySource old new
+alloc_starved old new size align layout some (k, step, asked, valid) =
+    let failed = alloc_failed old.memory.state old.memory.state size align k valid (layout_power size align layout) step in
     refused_by k (alloc_requests old.memory.state size align k) old.source new.source asked (omega (arith, failed.all, some))
     (made_some old.memory.state size align k failed some)
 
--- If an arena that doesn't grow has no place for a block, it has fewer bytes than are in use and requested.
-alloc_full : (old : View) (size align k : ℕ) (state : State) → IsValid old.memory.state → old.memory.state.is_growing ≡ false
-    → IsTrue (is_layout size align) → alloc old.memory.state size align k ≡ Some (record { answer = None; state = state })
-    → IsFull (used_bytes old.memory.state + size + (unit_of old.memory.state align - 1)) old
-alloc_full old size align k state valid still layout step =
-    let failed = alloc_failed old.memory.state state size align k valid (layout_power size align layout) step in
+starved_few : (old new : View) (size align : ℕ) → IsTrue (is_layout size align) → align ≤ 16 → size ≤ 2 ^ 60
+    → old.memory.state.is_growing ≡ true → top_of old.memory.state.chunks ≤ 2 ^ 63 + 2 ^ 62 → IsUnplaced old new size align
+    → IsRefusedBySource old new
+starved_few old new size align layout small bounded growing low unplaced =
+    alloc_starved old new size align layout (asks_some old.memory.state size align unplaced.3 growing small bounded low) unplaced
+
+-- An arena that doesn't grow has fewer bytes than are in use and requested.
+alloc_full : (old new : View) (size align : ℕ) → old.memory.state.is_growing ≡ false → IsTrue (is_layout size align)
+    → IsUnplaced old new size align → IsFull (used_bytes old.memory.state + size + (unit_of old.memory.state align - 1)) old
+alloc_full old new size align still layout (k, step, asked, valid) =
+    let failed = alloc_failed old.memory.state old.memory.state size align k valid (layout_power size align layout) step in
     record {
       still = still;
       short = omega (arith, newest_short old.memory.state size align valid failed.none, one_chunk old.memory.state valid still);
     }
 
 -- A block that is placed.
+placed_none : (old new : View) (size align k : ℕ) → PlacesBlock old new size align (Refused k) → IsUnplaced old new size align
+placed_none old new size align k places =
+    (places.0, places.1.outcome.1.step, places.1.outcome.1.asked, places.1.valid.entry)
+
 pub placed_starved : (old new : View) (size align k : ℕ) → IsTrue (is_layout size align) → align ≤ 16 → size ≤ 2 ^ 60
     → old.memory.state.is_growing ≡ true → PlacesBlock old new size align (Refused k)
     → top_of old.memory.state.chunks ≤ 2 ^ 63 + 2 ^ 62 → IsRefusedBySource old new
 placed_starved old new size align k layout small bounded growing places low =
-    let valid = places.1.valid.entry in
-    alloc_starved old new size align places.0 valid layout (asks_some old.memory.state size align valid growing small bounded low)
-    old.memory.state places.1.outcome.1.step places.1.outcome.1.asked
+    starved_few old new size align layout small bounded growing low (placed_none old new size align k places)
 
 pub placed_starved_any : (old new : View) (size align k : ℕ) → IsTrue (is_layout size align) → align ≤ 16 → size + 64 ≤ 2 ^ 63
     → old.memory.state.is_growing ≡ true → PlacesBlock old new size align (Refused k)
     → allocated_bytes old.memory.state < 2 ^ 60 → top_of old.memory.state.chunks ≤ 2 ^ 62 + 2 ^ 61 → IsRefusedBySource old new
 placed_starved_any old new size align k layout small fits growing places few low =
-    let valid = places.1.valid.entry in
-    alloc_starved old new size align places.0 valid layout (asks_any old.memory.state size align valid growing small fits few low)
-    old.memory.state places.1.outcome.1.step places.1.outcome.1.asked
+    alloc_starved old new size align layout (asks_any old.memory.state size align places.1.valid.entry growing small fits few low)
+    (placed_none old new size align k places)
 
 pub placed_full : (old new : View) (size align k : ℕ) → IsTrue (is_layout size align) → old.memory.state.is_growing ≡ false
     → PlacesBlock old new size align (Refused k) → IsFull (used_bytes old.memory.state + size + (unit_of old.memory.state align - 1)) old
-placed_full old new size align k layout still places =
-    alloc_full old size align places.0 old.memory.state places.1.valid.entry still layout places.1.outcome.1.step
+placed_full old new size align k layout still places = alloc_full old new size align still layout (placed_none old new size align k places)
 
 -- ---- A block that is resized
 
--- a step that returns a place isn't one that fails
-answers_none : (p : ℕ) → Some p ≡ None → ⊥
-answers_none p same = cc
-
 -- If there is no place for a block, it was to be allocated again, unless it is refused for its size.
 refused_anew : (way : Resizing) (old new : View) (block : Block) (size align k : ℕ) → (way ≡ NotGrown → ⊥)
-    → ResizesBlock way old new block size align (Refused k)
-    → (k : ℕ) × (alloc old.memory.state size align k ≡ Some (record { answer = None; state = old.memory.state }))
-    × IsAsked old.source new.source k (alloc_requests old.memory.state size align k) × IsValid old.memory.state
+    → ResizesBlock way old new block size align (Refused k) → IsUnplaced old new size align
 refused_anew Anew old new block size align k fits resizes =
     (resizes.0, resizes.1.outcome.1.step, resizes.1.outcome.1.asked, resizes.1.valid.entry)
 refused_anew NotGrown old new block size align k fits resizes = absurd (fits refl)
-refused_anew Stays old new block size align k fits resizes = absurd (answers_none block.addr (ap (λ (o : Outcome). o.answer)
-    (cond_some (resizes.0 == 0) (stays old.memory.state block.addr) _ resizes.1.outcome.1.step).1))
-refused_anew (Moves q) old new block size align k fits resizes = absurd (answers_none q (ap (λ (o : Outcome). o.answer)
-    (cond_some (resizes.0 == 0) (placed old.memory.state q) _ resizes.1.outcome.1.step).1))
+refused_anew Stays old new block size align k fits resizes = absurd (let same : Some block.addr ≡ None = ap (λ (o : Outcome). o.answer)
+    (cond_some (resizes.0 == 0) (stays old.memory.state block.addr) _ resizes.1.outcome.1.step).1 in cc)
+refused_anew (Moves q) old new block size align k fits resizes = absurd (let same : Some q ≡ None = ap (λ (o : Outcome). o.answer)
+    (cond_some (resizes.0 == 0) (placed old.memory.state q) _ resizes.1.outcome.1.step).1 in cc)
 
 -- A block whose alignment is a power of two and that grows to this size is never refused for its size.
 never_refused : (state : State) (p old_size old_align size align : ℕ) → IsValid state → IsTrue (is_power old_align) → old_align ≤ 16
@@ -195,9 +197,7 @@ never_refused state p old_size old_align size align valid power small bounded is
     placed_down None same = cc
 
 grown_anew : (old new : View) (block : Block) (size align k : ℕ) → IsTrue (is_power block.align) → block.align ≤ 16 → size + 31 ≤ 2 ^ 63
-    → GrowsBlock old new block size align (Refused k)
-    → (k : ℕ) × (alloc old.memory.state size align k ≡ Some (record { answer = None; state = old.memory.state }))
-    × IsAsked old.source new.source k (alloc_requests old.memory.state size align k) × IsValid old.memory.state
+    → GrowsBlock old new block size align (Refused k) → IsUnplaced old new size align
 grown_anew old new block size align k power low_align bounded grows =
     refused_anew (growing_of old.memory block size align) old new block size align k
     (never_refused old.memory.state block.addr block.size block.align size align grows.1.valid.entry power low_align bounded) grows
@@ -206,9 +206,8 @@ pub grown_starved : (old new : View) (block : Block) (size align k : ℕ) → Is
     → IsTrue (is_power block.align) → block.align ≤ 16 → size ≤ 2 ^ 60 → old.memory.state.is_growing ≡ true
     → GrowsBlock old new block size align (Refused k) → top_of old.memory.state.chunks ≤ 2 ^ 63 + 2 ^ 62 → IsRefusedBySource old new
 grown_starved old new block size align k layout small power low_align bounded growing grows low =
-    let anew = grown_anew old new block size align k power low_align (omega arith) grows in
-    alloc_starved old new size align anew.0 anew.3 layout (asks_some old.memory.state size align anew.3 growing small bounded low)
-    old.memory.state anew.1 anew.2
+    starved_few old new size align layout small bounded growing low
+    (grown_anew old new block size align k power low_align (omega arith) grows)
 
 -- no chunk has as many bytes as a size that is refused at once
 chunk_below : (state : State) → IsValid state → newest_size state.chunks + 64 ≤ 2 ^ 63
@@ -222,9 +221,8 @@ pub grown_full : (old new : View) (block : Block) (size align k : ℕ) → IsTru
     → block.align ≤ 16 → old.memory.state.is_growing ≡ false → GrowsBlock old new block size align (Refused k)
     → IsFull (used_bytes old.memory.state + size + (unit_of old.memory.state align - 1)) old
 grown_full old new block size align k layout power low_align still grows = elim (cases_lt (size + 30) (2 ^ 63)) [
-  | inl bounded ↦
-      let anew = grown_anew old new block size align k power low_align (omega arith) grows in
-      alloc_full old size align anew.0 old.memory.state anew.3 still layout anew.1
+  | inl bounded ↦ alloc_full old new size align still layout
+      (grown_anew old new block size align k power low_align (omega arith) grows)
   | inr large ↦
       let valid = grows.1.valid.entry in
       record { still = still; short = omega (arith, large, chunk_below old.memory.state valid, one_chunk old.memory.state valid still) }
@@ -245,8 +243,7 @@ shrinks_never state p old_size old_align size align =
     by false suits false q same = cc
 
 shrunk_anew : (old new : View) (block : Block) (size align k : ℕ) → ShrinksBlock old new block size align (Refused k)
-    → (k : ℕ) × (alloc old.memory.state size align k ≡ Some (record { answer = None; state = old.memory.state }))
-    × IsAsked old.source new.source k (alloc_requests old.memory.state size align k) × IsValid old.memory.state
+    → IsUnplaced old new size align
 shrunk_anew old new block size align k =
     refused_anew (shrinking_of old.memory block size align) old new block size align k
     (shrinks_never old.memory.state block.addr block.size block.align size align)
@@ -255,16 +252,13 @@ pub shrunk_starved : (old new : View) (block : Block) (size align k : ℕ) → I
     → old.memory.state.is_growing ≡ true → ShrinksBlock old new block size align (Refused k)
     → top_of old.memory.state.chunks ≤ 2 ^ 63 + 2 ^ 62 → IsRefusedBySource old new
 shrunk_starved old new block size align k layout small bounded growing shrinks low =
-    let anew = shrunk_anew old new block size align k shrinks in
-    alloc_starved old new size align anew.0 anew.3 layout (asks_some old.memory.state size align anew.3 growing small bounded low)
-    old.memory.state anew.1 anew.2
+    starved_few old new size align layout small bounded growing low (shrunk_anew old new block size align k shrinks)
 
 pub shrunk_full : (old new : View) (block : Block) (size align k : ℕ) → IsTrue (is_layout size align)
     → old.memory.state.is_growing ≡ false → ShrinksBlock old new block size align (Refused k)
     → IsFull (used_bytes old.memory.state + size + (unit_of old.memory.state align - 1)) old
 shrunk_full old new block size align k layout still shrinks =
-    let anew = shrunk_anew old new block size align k shrinks in
-    alloc_full old size align anew.0 old.memory.state anew.3 still layout anew.1
+    alloc_full old new size align still layout (shrunk_anew old new block size align k shrinks)
 
 -- A block that grows brings at most its new size into use, with the padding of its end and of its place.
 pub grown_used : (old new : View) (block b : Block) (size align : ℕ) → IsTrue (is_layout size align)

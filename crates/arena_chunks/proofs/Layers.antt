@@ -87,13 +87,14 @@ pub use Rattle.arena_chunks.proofs.UsedByCallLemmas.{
   returned_size,
   returned_elsewhere,
   reset_keeps_bytes,
-  wrote_used,
   placed_doubling,
   resized_doubling,
   returned_doubling,
 }
 
--- for automatic proof: frames, and the bytes of blocks
+-- for automatic proof: readable blocks, frames, and the bytes of blocks
+pub ruleset readable_laws = (in_use, readable_low, readable_high, readable_size, unused_unreadable, readable_together)
+
 pub ruleset layer_laws = (
   frame_then,
   frame_keeps_new,

@@ -13,7 +13,7 @@ use Rattle.arena_rules.proofs.RoundingLemmas.{layout_power}
 use Rattle.arena_rules.proofs.UsedBytesLemmas.{alloc_least, alloc_most, alloc_exact, alloc_exact_in_new}
 use Rattle.arena_rules.proofs.UsedResizeLemmas.{grow_used, growth_least, growth_most, growth_exact, shrink_used, resize_stays, dealloc_used, dealloc_used_elsewhere, padded_exact}
 use Rattle.arena_rules.proofs.DoublingLemmas.{alloc_doubling, resize_doubling, dealloc_doubling}
-use Rattle.arena_rules.proofs.ResetLemmas.{reset_allocated}
+use Rattle.arena_rules.proofs.ResetLemmas.{reset_allocated, reset_used}
 use Rattle.arena_store.specs.Memory.{Memory, is_readable}
 use Rattle.arena_store.specs.Source.{View}
 use Rattle.arena_core.specs.Answers.Answer.{Placed}
@@ -127,7 +127,7 @@ pub anew_most : (old new : View) (block b : Block) (size align : ℕ) → IsTrue
 anew_most old new block b size align layout is =
     alloc_most old.memory.state new.memory.state size align is.0 b.addr is.1.valid.entry (layout_power size align layout) is.1.outcome.step
 
--- ---- A block that is given back, or written
+-- ---- A block that is given back
 
 -- what is given back leaves the state of the rule
 given_state : (old new : Memory) (b : Block) → GivesBack old new b → used_bytes new.state ≡ used_bytes (dealloc old.state b.addr b.size)
@@ -154,11 +154,6 @@ returned_size old new b readable gives at one =
 pub returned_elsewhere : (old new : Memory) (b : Block) → GivesBack old new b → b.addr ≢ cursor_of old.state.chunks
     → used_bytes new.state ≡ used_bytes old.state
 returned_elsewhere old new b gives other = given_state old new b gives ∙ dealloc_used_elsewhere old.state b.addr b.size other
-
--- A write doesn't change the number of used bytes.
-pub wrote_used : (old new : Memory) (b : Block) (at : ℕ) (list : List ℕ) → WritesBlock old new b at list
-    → used_bytes new.state ≡ used_bytes old.state
-wrote_used old new b at list writes = ap (λ (s : State). used_bytes s) writes.state
 
 -- ---- Chunks that double
 
@@ -196,3 +191,6 @@ one_chunk (newest ∷ (next ∷ older)) fits = absurd fits
 pub reset_keeps_bytes : (state : State) → IsValid state → state.is_growing ≡ false → allocated_bytes (reset state) ≡ allocated_bytes state
 reset_keeps_bytes state valid still = reset_allocated state
     ∙ one_chunk state.chunks (subst (λ (b : Bool). FitsKind b state.chunks) still valid.kind)
+
+-- for automatic proof
+pub ruleset given_back_laws = (returned_used, returned_size, returned_elsewhere, reset_used, reset_keeps_bytes)

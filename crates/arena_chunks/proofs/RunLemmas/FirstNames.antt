@@ -87,10 +87,6 @@ remove_first places others k none within =
     agree _ _ k (set_own places others k None none within ∙ sym (get-removed (held_with 0 places others) k))
     (λ q differs. set_other places others k None q none differs ∙ sym (get-remove_other (held_with 0 places others) k q differs))
 
-pub none_set : (places : List (Option Place)) (others : Held) (k : ℕ) (o : Option Place) → HoldsNoneBelow (length places) others
-    → HoldsNoneBelow (length (slice_set places k o)) others
-none_set places others k o none = λ q within. none q (omega (arith, length-set places k o))
-
 -- a name past the list
 pub insert_other : (places : List (Option Place)) (others : Held) (k : ℕ) (p : Place) → length places ≤ k
     → held_with 0 places (finite.insert others k p) ≡ finite.insert (held_with 0 places others) k p
@@ -140,13 +136,6 @@ pub none_below : (n : ℕ) → HoldsNoneBelow n finite.empty
 none_below n = λ name within. get-empty nat_cmp name
 
 -- ---- The list from its end on
-
-pub with_none : (places : List (Option Place)) (others : Held) (at : ℕ) (o : Option Place) → at < length places
-    → o ≡ get_or places at o → o ≡ None
-    → held_with at (drop at places) others ≡ held_with (at + 1) (drop (at + 1) places) others
-with_none places others at o within is none =
-    ap (λ (os : List (Option Place)). held_with at os others) (drop_more places at o within)
-    ∙ ap (λ (x : Option Place). held_with at (x ∷ drop (at + 1) places) others) (sym is ∙ none)
 
 pub with_some : (places : List (Option Place)) (others : Held) (at : ℕ) (o : Option Place) (p : Place) → at < length places
     → o ≡ get_or places at o → o ≡ Some p

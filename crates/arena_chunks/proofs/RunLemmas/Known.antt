@@ -1,5 +1,5 @@
 -- The names of marks in a tree, and marks in a vector, oldest first.
-use Rattle.std.proofs.Common.{◌≡◌, ℕ, ◌+◌, ◌-◌, ◌<◌, ◌≤◌, ap, refl, sym, ◌∙◌, arith, List, [], ◌∷◌, ◌++◌, Bool, cond, true, false, IsTrue, Option, Some, None, length, reverse, take, get_or, eqb-true, zero, suc}
+use Rattle.std.proofs.Common.{◌≡◌, ℕ, ◌+◌, ◌-◌, ◌<◌, ◌≤◌, ap, refl, sym, ◌∙◌, arith, List, [], ◌∷◌, Bool, cond, true, false, IsTrue, Some, length, reverse, take, get_or, eqb-true, zero, suc}
 use Rattle.std.specs.Prelude.{◌==◌, if◌then◌else◌}
 use Rattle.std.specs.Option.{is_some}
 use Rattle.std.specs.List.{list_any}
@@ -18,33 +18,10 @@ use Rattle.arena_chunks.specs.declared.runs.marks.Mark.{Mark}
 pub knows_none : (s : BTreeSet ℕ) → s.keys ≡ [] → Knows s []
 knows_none s none = record { distinct = tt; names = λ q. ap (list_any (is_at (nat_cmp q))) none }
 
-pub knows_same : (s n : BTreeSet ℕ) (marks : List Mark) → n.keys ≡ s.keys → Knows s marks → Knows n marks
-knows_same s n marks same knows = record {
-  distinct = knows.distinct;
-  names = λ q. ap (list_any (is_at (nat_cmp q))) same ∙ knows.names q;
-}
-
 -- the set has what it had, except for the mark's name
 others : (s n : BTreeSet ℕ) (m : Mark) (is : Bool) → Updates nat_cmp s n m.name is → (q : ℕ)
     → contains nat_cmp n q ≡ cond (m.name == q) is (contains nat_cmp s q)
 others s n m is updates q = updates.0 q ∙ ap (λ (b : Bool). cond b is (contains nat_cmp s q)) (unsigned_tied m.name q)
-
-pub knows_more : (s n : BTreeSet ℕ) (marks : List Mark) (m : Mark) → is_some (mark_named (named marks) m.name) ≡ false
-    → Updates nat_cmp s n m.name true
-    → Knows s marks → Knows n (m ∷ marks)
-knows_more s n marks m free updates knows = record {
-  distinct = (none (mark_named (named marks) m.name) free, knows.distinct);
-  names = λ q. others s n m true updates q ∙ by q (m.name == q);
-}
-  where
-    none : {X : Type 0} (o : Option X) → is_some o ≡ false → o ≡ None
-    none None is = refl
-    none (Some x) is = cc
-
-    by : (q : ℕ) (b : Bool) → cond b true (contains nat_cmp s q)
-        ≡ is_some (if b then Some (mark_at m.checkpoint) else mark_named (named marks) q)
-    by q true = refl
-    by q false = knows.names q
 
 pub knows_less : (s n : BTreeSet ℕ) (m : Mark) (older : List Mark) → Updates nat_cmp s n m.name false → Knows s (m ∷ older)
     → Knows n older
@@ -59,16 +36,13 @@ knows_less s n m older updates knows = record {
 
 -- ---- The vector
 
-pub pushed_first : (items : List Mark) (m : Mark) → reverse (items ++ m ∷ []) ≡ m ∷ reverse items
-pushed_first items m = reverse-append items (m ∷ [])
-
 -- the newest of the first `count` marks is the last of them
 pub newest_first : (items : List Mark) (count : ℕ) (m : Mark) → 0 < count → count ≤ length items → m ≡ get_or items (count - 1) m
     → reverse (take count items) ≡ m ∷ reverse (take (count - 1) items)
 newest_first items count m some within is =
     let back : count - 1 + 1 ≡ count = omega arith in
     ap (λ (n : ℕ). reverse (take n items)) (sym back) ∙ ap reverse (take_more items (count - 1) m (omega arith))
-    ∙ pushed_first (take (count - 1) items) (get_or items (count - 1) m) ∙ ap (λ (x : Mark). x ∷ reverse (take (count - 1) items)) (sym is)
+    ∙ reverse-append (take (count - 1) items) (get_or items (count - 1) m ∷ []) ∙ ap (λ (x : Mark). x ∷ reverse (take (count - 1) items)) (sym is)
 
 -- ---- Marks that end
 

@@ -43,6 +43,7 @@ pub fn all_apart()
 /// generation and its bytes are in the used part of one chunk. It then is at 4096 or above, and below 2^64. None has
 /// more than 2^63 - 64 bytes. If no byte is in use, as after a reset, no block of some bytes is readable. Readable
 /// blocks that are pairwise apart together have at most as many bytes as are in use.
+#[tactic(auto, using(crate::proofs::Layers::readable_laws))]
 pub fn readable()
     ensures empty { (state : State) (b : Block) → b.size ≡ 0 → IsTrue (is_readable state b) }
     ensures filled { (state : State) (b : Block) → 0 < b.size

@@ -50,6 +50,7 @@ pub fn resized()
 /// After a write a block's bytes are the old ones with the list in place of the range, and the same blocks are
 /// readable. A list as long as the block is all of its bytes. Two adjacent writes are one, and a write of no bytes
 /// changes nothing. A change of bytes by a function writes the function's value.
+#[tactic(auto, using(crate::proofs::Layers::layer_laws, crate::proofs::Layers::wrote_part))]
 pub fn written()
     ensures bytes { (old new : Memory) (b : Block) (at : ℕ) (list : List ℕ) → WritesBlock old new b at list
         → at + length list ≤ b.size
@@ -71,6 +72,7 @@ pub fn written()
 {}
 
 /// No byte changes when a block is given back. With least alignment 1, only the use of the block's own bytes changes.
+#[tactic(auto, using(crate::proofs::Layers::returned_bytes, crate::proofs::Layers::returned_plain))]
 pub fn given_back()
     ensures bytes { (old new : Memory) (b : Block) (addr : ℕ) → GivesBack old new b
         → image new addr ≡ image old addr }

@@ -71,6 +71,7 @@ pub fn used_by_resizing()
 /// Giving a block at the cursor back frees its bytes up to the next multiple of the least alignment; with least
 /// alignment 1 these are its size. Giving any other block back frees none. A write doesn't change the number of used
 /// bytes. A reset frees all bytes, and an arena that doesn't grow keeps all its bytes.
+#[tactic(auto, using(crate::proofs::UsedByCallLemmas::given_back_laws))]
 pub fn used_by_giving_back()
     ensures last { (old new : Memory) (b : Block) → IsTrue (is_readable old.state b) → GivesBack old new b
         → b.addr ≡ cursor_of old.state.chunks
