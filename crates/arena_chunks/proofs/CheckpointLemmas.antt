@@ -1,7 +1,7 @@
 -- Marks that an arena accepts, after calls on blocks.
-use Rattle.std.proofs.Common.{◌≡◌, ℕ, ap, sym, subst, ◌∙◌, refl, IsTrue, Bool, Some, List, eq-eqb}
-use Rattle.std.specs.Prelude.{◌==◌, ◌&&◌}
-use Rattle.std.proofs.lemmas.Bool.{and_parts}
+use Rattle.std.proofs.Common.{◌≡◌, ℕ, ap, sym, subst, ◌∙◌, refl, IsTrue, Some, List, eq-eqb}
+use Rattle.std.specs.Prelude.{◌==◌}
+use Rattle.std.proofs.lemmas.Bool.{and_from, and_parts}
 use Rattle.arena_rules.specs.State.{State, IsValid}
 use Rattle.arena_rules.specs.Back.{accepts, KeepsMark}
 use Rattle.arena_rules.specs.Moves.{Resizing, dealloc}
@@ -16,11 +16,8 @@ use Rattle.arena_core.specs.Checkpoints.{mark_at, checkpoint_of, is_accepted, Ke
 use Rattle.arena_store.specs.declared.block.Block.{Block}
 use Rattle.arena_core.specs.declared.rewind.Checkpoint.{Checkpoint}
 
-pub and_intro : {a b : Bool} → IsTrue a → IsTrue b → IsTrue (a && b)
-and_intro first second = rw (first, second) refl
-
 pub checkpoint_own : (state : State) → IsValid state → IsTrue (is_accepted (checkpoint_of state) state)
-checkpoint_own state valid = and_intro (eq-eqb state.generation state.generation refl) (own_accepted state valid)
+checkpoint_own state valid = and_from _ _ (eq-eqb state.generation state.generation refl) (own_accepted state valid)
 
 -- an accepted mark that the call keeps
 by_mark : (c : Checkpoint) (old new : State) → IsTrue (is_accepted c old)
@@ -28,7 +25,7 @@ by_mark : (c : Checkpoint) (old new : State) → IsTrue (is_accepted c old)
 by_mark c old new holds keeps =
     let parts = and_parts (c.generation == old.generation) (accepts (mark_at c) old) holds in
     let kept = keeps parts.1 in
-    (and_intro (ap (λ (g : ℕ). c.generation == g) kept.generation ∙ parts.0) kept.accepted, kept)
+    (and_from _ _ (ap (λ (g : ℕ). c.generation == g) kept.generation ∙ parts.0) kept.accepted, kept)
 
 pub checkpoint_still : (c : Checkpoint) (old new : State) → IsTrue (is_accepted c old) → new ≡ old → KeepsCheckpoint c old new
 checkpoint_still c old new holds same = subst (KeepsCheckpoint c old) (sym same) (by_mark c old old holds (still_keeps (mark_at c) old))

@@ -17,7 +17,7 @@ use Rattle.arena_rules.proofs.ResetLemmas.{reset_allocated, reset_used}
 use Rattle.arena_store.specs.Memory.{Memory, is_readable}
 use Rattle.arena_store.specs.Source.{View}
 use Rattle.arena_core.specs.Answers.Answer.{Placed}
-use Rattle.arena_core.specs.BlockCalls.{place_of, PlacesBlock, PlacesAfter, ResizesBlock, ResizesAfter, GrowsBlock, ShrinksBlock, GivesBack, WritesBlock, growing_of, shrinking_of}
+use Rattle.arena_core.specs.BlockCalls.{place_of, PlacesBlock, PlacesAfter, ResizesBlock, ResizesAfter, GrowsBlock, ShrinksBlock, GivesBack, growing_of, shrinking_of}
 use Rattle.arena_store.specs.declared.block.Block.{Block}
 use Rattle.arena_core.proofs.LayerLemmas.{readable_used}
 

@@ -6,12 +6,12 @@ use Rattle.std.specs.List.{AllByRecursion}
 use Rattle.std.specs.FinMap as finite
 use Rattle.std.specs.FinMap.{get-retain_keys, same_map, nat_cmp-IsAntisymmetric}
 use Rattle.std.specs.Cmp.{nat_cmp_total}
-use Rattle.std.proofs.lemmas.Bool.{and_parts, cases_lt, cases_Bool, or_left, or_right}
+use Rattle.std.proofs.lemmas.Bool.{and_from, and_parts, cases_lt, cases_Bool, or_left, or_right}
 use Rattle.std.proofs.lemmas.List.{length-take-le, get_or-take}
 use Rattle.std.proofs.lemmas.Option.{none-some, same_Some}
 use Rattle.arena_rules.specs.State.{State, IsValid, is_used, is_range_used, is_place_used}
-use Rattle.arena_rules.specs.Back.{back, accepts, is_in_part, KeepsMark}
-use Rattle.call_rules.specs.Machine.{Held, Contents, is_left, mark_named, marks_to, step}
+use Rattle.arena_rules.specs.Back.{back, is_in_part, KeepsMark}
+use Rattle.call_rules.specs.Machine.{Held, is_left, mark_named, marks_to, step}
 use Rattle.call_rules.specs.Requests.{placed_anew}
 use Rattle.arena_rules.specs.declared.place.Place.{Place}
 use Rattle.call_rules.specs.declared.calls.Call.TheVariants.{Back as GoBack}
@@ -23,12 +23,10 @@ use Rattle.arena_rules.proofs.UsedLemmas.{used_part}
 use Rattle.arena_store.specs.Memory.{Memory, image}
 use Rattle.arena_store.specs.Source.{Source, view}
 use Rattle.arena_core.specs.Checkpoints.{mark_at, is_accepted, sent_back, GoesBack}
-use Rattle.arena_chunks.specs.Runs.{HoldsBytes}
 use Rattle.arena_chunks.specs.Runs.Marks.{Noted, named, marks_from, IsNoted, Lies, TracksMark, IsOlder, AreTracked, Tracks, KeepEntry, stands, LetsGo}
 use Rattle.arena_chunks.specs.Runs.Serving.{Holds, ServesRun}
 use Rattle.arena_chunks.specs.declared.runs.marks.Mark.{Mark}
 use Rattle.arena_store.proofs.AskedLemmas.{asked_none}
-use Rattle.arena_chunks.proofs.CheckpointLemmas.{and_intro}
 use Rattle.arena_chunks.proofs.RunLemmas.Log.{not_both}
 use Rattle.arena_chunks.proofs.RunLemmas.Marking.{lay}
 use Rattle.arena_core.proofs.WrittenLemmas.{bytes_same}
@@ -66,43 +64,58 @@ found_from name (o ∷ rest) m older is = by (o.name == name) (λ same. found_fr
     by true later same = ap (λ (x : Mark). Some (mark_at x.checkpoint)) (first same)
     by false later same = later same
 
-module _ (old : State) (names held : Held) (log : List ℕ) (from : ℕ) (m : Mark) (holds : Holds old names)
-    (tracked : TracksMark old names log m)
-    (lets : LetsGo (back (mark_at m.checkpoint) old) names held from log) (over : 0 < from
-    → IsTrue (stands (back (mark_at m.checkpoint) old) held (get_or log (from - 1) 0))) where
+module _ (state : State) (names : Held) (noted : Noted) (name : ℕ) (m : Mark) (older : List Mark) (tracks : Tracks state names noted)
+    (from : marks_from name noted.marks ≡ m ∷ older) where
+  suffix_tracked : AreTracked state names noted.log (m ∷ older)
+  suffix_tracked = subst (AreTracked state names noted.log) from
+      (from_some {P = AreTracked state names noted.log} (λ o rest are. are.2) name noted.marks tracks)
+
+  pub back_accepted : IsTrue (is_accepted m.checkpoint state)
+  back_accepted = and_from _ _ (eq-eqb m.checkpoint.generation state.generation suffix_tracked.0.generation) suffix_tracked.0.accepted
+
+module _ (old : Memory) (names held : Held) (noted : Noted) (name : ℕ) (m : Mark) (older : List Mark) (count : ℕ)
+    (holds : Holds old.state names) (tracks : Tracks old.state names noted) (found : marks_from name noted.marks ≡ m ∷ older)
+    (lets : LetsGo (back (mark_at m.checkpoint) old.state) names held count noted.log) (over : 0 < count
+    → IsTrue (stands (back (mark_at m.checkpoint) old.state) held (get_or noted.log (count - 1) 0))) where
   abbrev now : State
-  now = back (mark_at m.checkpoint) old
+  now = back (mark_at m.checkpoint) old.state
+
+  suffix : AreTracked old.state names noted.log (m ∷ older)
+  suffix = suffix_tracked old.state names noted name m older tracks found
+
+  tracked : TracksMark old.state names noted.log m
+  tracked = suffix.0
 
   -- a name that was read in the log and still holds its block holds no bytes
-  looked_at : {P : Type 0} (q : ℕ) (p : Place) → IsNoted log from q → finite.get held q ≡ Some p → 0 < p.size → P
+  looked_at : {P : Type 0} (q : ℕ) (p : Place) → IsNoted noted.log count q → finite.get held q ≡ Some p → 0 < p.size → P
   looked_at q p there at some = absurd (omega (arith, lets.ended q p there at))
 
   -- the name at which the removal ended
-  stays_last : 0 < from → Lies true old names m (get_or log (from - 1) 0)
-  stays_last some = by (finite.get held (get_or log (from - 1) 0)) refl
+  stays_last : 0 < count → Lies true old.state names m (get_or noted.log (count - 1) 0)
+  stays_last some = by (finite.get held (get_or noted.log (count - 1) 0)) refl
     where
-      by : (o : Option Place) → finite.get held (get_or log (from - 1) 0) ≡ o → Lies true old names m (get_or log (from - 1) 0)
-      by None at = not_both (stands now held (get_or log (from - 1) 0)) (over some)
+      by : (o : Option Place) → finite.get held (get_or noted.log (count - 1) 0) ≡ o → Lies true old.state names m (get_or noted.log (count - 1) 0)
+      by None at = not_both (stands now held (get_or noted.log (count - 1) 0)) (over some)
           (ap (λ (o : Option Place). option_map_or (λ (x : Place). nat_lt 0 x.size && is_place_used now x) o false) at)
       by (Some p) at =
           let both = and_parts (nat_lt 0 p.size) (is_place_used now p)
           (sym (ap (λ (o : Option Place). option_map_or (λ (x : Place). nat_lt 0 x.size && is_place_used now x) o false) at) ∙ over some) in
           let filled : 0 < p.size = leb-true _ _ both.0 in (
             p,
-            lets.less (get_or log (from - 1) 0) p at,
+            lets.less (get_or noted.log (count - 1) 0) p at,
             filled,
-            left_part (mark_at m.checkpoint) old p.addr p.size holds.valid filled (used_filled now p filled both.1),
+            left_part (mark_at m.checkpoint) old.state p.addr p.size holds.valid filled (used_filled now p filled both.1),
           )
 
-  lost : (q : ℕ) (p : Place) → finite.get names q ≡ Some p → is_place_used now p ≡ false → Lies false old names m q
+  lost : (q : ℕ) (p : Place) → finite.get names q ≡ Some p → is_place_used now p ≡ false → Lies false old.state names m q
   lost q p at unused = elim (cases_lt 0 p.size) [
     | inr none ↦ not_both (is_place_used now p) (or_left (p.size == 0) (is_range_used now.chunks p.addr p.size) (eq-eqb _ _ (omega arith)))
         unused
-    | inl some ↦ elim (cases_Bool (is_in_part (mark_at m.checkpoint) old p.addr)) [
+    | inl some ↦ elim (cases_Bool (is_in_part (mark_at m.checkpoint) old.state p.addr)) [
       | inr outside ↦ (p, at, some, outside)
       | inl inside ↦ not_both (is_place_used now p)
           (or_right (p.size == 0) (is_range_used now.chunks p.addr p.size)
-          (part_left (mark_at m.checkpoint) old p.addr p.size holds.valid some (used_filled old p some (holds.each q p at).used) inside))
+          (part_left (mark_at m.checkpoint) old.state p.addr p.size holds.valid some (used_filled old.state p some (holds.each q p at).used) inside))
           unused
     ]
   ]
@@ -110,14 +123,14 @@ module _ (old : State) (names held : Held) (log : List ℕ) (from : ℕ) (m : Ma
   gone : (q : ℕ) (p : Place) → finite.get names q ≡ Some p → is_place_used now p ≡ false → finite.get held q ≡ None
   gone q p at unused = by (finite.get held q) refl
     where
-      lies : Lies false old names m q
+      lies : Lies false old.state names m q
       lies = lost q p at unused
 
-      there : IsNoted log from q
-      there = elim (cases_lt 0 from) [
+      there : IsNoted noted.log count q
+      there = elim (cases_lt 0 count) [
         | inr none ↦ (let all = tracked.noted q lies in (all.0, omega arith, all.2, all.3))
         | inl some ↦
-            let behind = tracked.behind (from - 1) (omega (arith, lets.within)) (stays_last some) q lies in
+            let behind = tracked.behind (count - 1) (omega (arith, lets.within)) (stays_last some) q lies in
             (behind.0, omega (arith, behind.1), behind.2, behind.3)
       ]
 
@@ -128,7 +141,7 @@ module _ (old : State) (names held : Held) (log : List ℕ) (from : ℕ) (m : Ma
           looked_at q x there is (omega (arith, lies.2, ap (λ (y : Place). y.size) same))
 
   -- The names that remain hold what they held.
-  pub held_left : held ≡ finite.retain_keys names (is_left now names)
+  held_left : held ≡ finite.retain_keys names (is_left now names)
   held_left = same_map nat_cmp_total nat_cmp-IsAntisymmetric _ _ (λ q.
       by q (is_left now names q) refl ∙ sym (get-retain_keys names (is_left now names) q
       (λ x same. ap (is_left now names) (sym (nat_cmp-IsAntisymmetric q x same)))))
@@ -146,7 +159,7 @@ module _ (old : State) (names held : Held) (log : List ℕ) (from : ℕ) (m : Ma
       by q false is = rw is (none q (finite.get names q) refl is)
 
   -- the block of a name that is still held is in the part that remains
-  pub held_used : (q : ℕ) (p : Place) → finite.get held q ≡ Some p → (finite.get names q ≡ Some p) × IsTrue (is_place_used now p)
+  held_used : (q : ℕ) (p : Place) → finite.get held q ≡ Some p → (finite.get names q ≡ Some p) × IsTrue (is_place_used now p)
       × IsTrue (is_left now names q)
   held_used q p at =
       let before = lets.less q p at in
@@ -156,42 +169,41 @@ module _ (old : State) (names held : Held) (log : List ℕ) (from : ℕ) (m : Ma
       ]
 
   -- the mark, and each older one, is tracked by what remains of the log
-  mark_back : (o : Mark) → o.checkpoint.chunks ≤ m.checkpoint.chunks → TracksMark old names log o → TracksMark now held (take from log) o
+  mark_back : (o : Mark) → o.checkpoint.chunks ≤ m.checkpoint.chunks → TracksMark old.state names noted.log o → TracksMark now held (take count noted.log) o
   mark_back o under was = record {
     generation = was.generation;
     accepted = kept.accepted;
     noted = λ q ends. first 0 q ends (was.noted q (before false q ends));
     behind = λ i below stays q ends.
-        let entry = get_or-take from log i 0 (omega (arith, below, many)) in
+        let entry = get_or-take count noted.log i 0 (omega (arith, below, many)) in
         first (i + 1) q ends (was.behind i (omega (arith, below, many, lets.within))
-        (before true (get_or log i 0) (subst (Lies true now held o) entry stays)) q (before false q ends));
+        (before true (get_or noted.log i 0) (subst (Lies true now held o) entry stays)) q (before false q ends));
   }
     where
-      kept : KeepsMark (mark_at o.checkpoint) old now
-      kept = back_keeps (mark_at o.checkpoint) (mark_at m.checkpoint) old under was.accepted tracked.accepted
+      kept : KeepsMark (mark_at o.checkpoint) old.state now
+      kept = back_keeps (mark_at o.checkpoint) (mark_at m.checkpoint) old.state under was.accepted tracked.accepted
 
-      many : length (take from log) ≡ from
-      many = length-take-le from log lets.within
+      many : length (take count noted.log) ≡ count
+      many = length-take-le count noted.log lets.within
 
-      before : (inside : Bool) (q : ℕ) → Lies inside now held o q → Lies inside old names o q
-      before inside q lies = lay inside old now names held o q kept (λ p at. (p, lets.less q p at, refl, omega arith)) lies
+      before : (inside : Bool) (q : ℕ) → Lies inside now held o q → Lies inside old.state names o q
+      before inside q lies = lay inside old.state now names held o q kept (λ p at. (p, lets.less q p at, refl, omega arith)) lies
 
-      first : (low q : ℕ) → Lies false now held o q → IsNoted log low q → IsNoted (take from log) low q
-      first low q ends there = elim (cases_lt there.0 from) [
-        | inl here ↦ (there.0, there.1, omega (arith, many), get_or-take from log there.0 0 here ∙ there.3)
+      first : (low q : ℕ) → Lies false now held o q → IsNoted noted.log low q → IsNoted (take count noted.log) low q
+      first low q ends there = elim (cases_lt there.0 count) [
+        | inl here ↦ (there.0, there.1, omega (arith, many), get_or-take count noted.log there.0 0 here ∙ there.3)
         | inr past ↦ looked_at q ends.0 (there.0, past, there.2, there.3) ends.1 ends.2
       ]
 
-  pub tracked_back : (older : List Mark) → AllByRecursion (IsOlder m) older → AreTracked old names log older
-      → AreTracked now held (take from log) (m ∷ older)
-  tracked_back older under are = (mark_back m (omega arith) tracked, under, go older under are)
+  tracked_back : AreTracked now held (take count noted.log) (m ∷ older)
+  tracked_back = (mark_back m (omega arith) tracked, suffix.1, go older suffix.1 suffix.2)
     where
-      go : (marks : List Mark) → AllByRecursion (IsOlder m) marks → AreTracked old names log marks
-          → AreTracked now held (take from log) marks
+      go : (marks : List Mark) → AllByRecursion (IsOlder m) marks → AreTracked old.state names noted.log marks
+          → AreTracked now held (take count noted.log) marks
       go [] below all = tt
       go (o ∷ rest) below all = (mark_back o below.0 all.0, all.1, go rest below.1 all.2)
 
-  pub holds_back : IsValid now → Holds now held
+  holds_back : IsValid now → Holds now held
   holds_back valid = record {
     valid = valid;
     each = λ q p at.
@@ -201,94 +213,43 @@ module _ (old : State) (names held : Held) (log : List ℕ) (from : ℕ) (m : Ma
     apart = λ a b p q differ first second. holds.apart a b p q differ (held_used a p first).0 (held_used b q second).0;
   }
 
-entry_back : (entry old : State) (names : Held) (log : List ℕ) (m : Mark) (older : List Mark) → IsTrue (accepts (mark_at m.checkpoint) old)
-    → ((addr : ℕ) → IsTrue (is_used entry addr) → IsTrue (is_used (back (mark_at m.checkpoint) old) addr))
-    → AllByRecursion (IsOlder m) older → AreTracked old names log older
-    → KeepEntry entry old older → KeepEntry entry (back (mark_at m.checkpoint) old) older
-entry_back entry old names log m [] accepted used under are keep = tt
-entry_back entry old names log m (o ∷ rest) accepted used under are keep = (
-  λ addr in_use. (back_keeps (mark_at o.checkpoint) (mark_at m.checkpoint) old under.0 are.0.accepted accepted).used addr 1
-      (used addr in_use) (keep.0 addr in_use),
-  entry_back entry old names log m rest accepted used under.1 are.2 keep.1,
-)
+  entry_back : (entry : State) → ((addr : ℕ) → IsTrue (is_used entry addr) → IsTrue (is_used now addr)) → (marks : List Mark)
+      → AllByRecursion (IsOlder m) marks → AreTracked old.state names noted.log marks → KeepEntry entry old.state marks
+      → KeepEntry entry now marks
+  entry_back entry used [] under are keep = tt
+  entry_back entry used (o ∷ rest) under are keep = (
+    λ addr in_use. (back_keeps (mark_at o.checkpoint) (mark_at m.checkpoint) old.state under.0 are.0.accepted tracked.accepted).used addr 1
+        (used addr in_use) (keep.0 addr in_use),
+    entry_back entry used rest under.1 are.2 keep.1,
+  )
 
-module _ (state : State) (names : Held) (noted : Noted) (name : ℕ) (m : Mark) (older : List Mark) (tracks : Tracks state names noted)
-    (from : marks_from name noted.marks ≡ m ∷ older) where
-  suffix_tracked : AreTracked state names noted.log (m ∷ older)
-  suffix_tracked = subst (AreTracked state names noted.log) from
-      (from_some {P = AreTracked state names noted.log} (λ o rest are. are.2) name noted.marks tracks)
-
-  pub back_accepted : IsTrue (is_accepted m.checkpoint state)
-  back_accepted = and_intro (eq-eqb m.checkpoint.generation state.generation suffix_tracked.0.generation) suffix_tracked.0.accepted
-
-pub serves_back : (old new : Memory) (names held : Held) (noted later : Noted) (name : ℕ) (m : Mark) (older : List Mark) (source : Source)
-    → Holds old.state names
-    → Tracks old.state names noted → marks_from name noted.marks ≡ m ∷ older → GoesBack old new → new ≡ sent_back m.checkpoint old
-    → later.marks ≡ m ∷ older → (count : ℕ) → later.log ≡ take count noted.log → LetsGo new.state names held count noted.log
-    → (0 < count → IsTrue (stands new.state held (get_or noted.log (count - 1) 0)))
-    → ServesRun (GoBack name) Done (view old source) (view new source) names held noted later
-unfolding step placed_anew
-serves_back old new names held noted later name m older source holds tracks from goes is marks count log lets_now over_now = record {
-  steps = λ bytes holds_bytes. (
-    finite.retain_keys bytes (is_left now names),
-    rw (
-      found_from name noted.marks m older from,
-      named_from name noted.marks,
-      from,
-      marks,
-      state,
-      held_left old.state names held noted.log count m holds tracked lets over,
-    ) refl,
-    bytes_back bytes holds_bytes,
-  );
-  asks = record { asked = λ marks bytes. asked_none source; statistics = λ marks bytes. ap (λ (w : Memory). w.statistics) is };
-  holds = rw state (holds_back old.state names held noted.log count m holds tracked lets over (rw state at goes.valid.exit));
-  tracks = rw (state, marks) (subst (λ (l : List ℕ). AreTracked now held l (m ∷ older)) (sym log)
-      (tracked_back old.state names held noted.log count m holds tracked lets over older suffix.1 suffix.2));
-  keeps = λ still entry kept keep_all.
-      let keep = from_some {P = KeepEntry entry.state old.state} (λ o rest both. both.1) name noted.marks keep_all in
-      let keep_from : KeepEntry entry.state old.state (m ∷ older) = rw from at keep in
-      let used : (addr : ℕ) → IsTrue (is_used entry.state addr) → IsTrue (is_used new.state addr) = λ addr in_use.
-      rw state (keep_from.0 addr in_use) in (
-        record {
-          kept = record { used = used; bytes = λ addr in_use. goes.bytes addr (used addr in_use) ∙ kept.kept.bytes addr in_use };
-          beside = λ q p at addr in_use. rw state (kept.beside q p (lets.less q p at) addr in_use);
-        },
-        rw (state, marks) (
-          λ addr in_use. own.used addr 1 (keep_from.0 addr in_use) (keep_from.0 addr in_use),
-          entry_back entry.state old.state names noted.log m older tracked.accepted keep_from.0 suffix.1 suffix.2 keep_from.1,
-        ),
-      );
-}
-  where
-    now : State
-    now = back (mark_at m.checkpoint) old.state
-
-    state : new.state ≡ now
-    state = ap (λ (w : Memory). w.state) is
-
-    suffix : AreTracked old.state names noted.log (m ∷ older)
-    suffix = suffix_tracked old.state names noted name m older tracks from
-
-    tracked : TracksMark old.state names noted.log m
-    tracked = suffix.0
-
-    lets : LetsGo now names held count noted.log
-    lets = subst (λ (s : State). LetsGo s names held count noted.log) state lets_now
-
-    over : 0 < count → IsTrue (stands now held (get_or noted.log (count - 1) 0))
-    over = λ some. subst (λ (s : State). IsTrue (stands s held (get_or noted.log (count - 1) 0))) state (over_now some)
-
-    own : KeepsMark (mark_at m.checkpoint) old.state now
-    own = back_keeps (mark_at m.checkpoint) (mark_at m.checkpoint) old.state (omega arith) tracked.accepted tracked.accepted
-
-    bytes_back : (bytes : Contents) → HoldsBytes old names bytes → HoldsBytes new held (finite.retain_keys bytes (is_left now names))
-    bytes_back bytes holds_bytes = record {
-      each = λ q p at.
-          let was = held_used old.state names held noted.log count m holds tracked lets over q p at in
-          get-retain_keys bytes (is_left now names) q (λ x same. ap (is_left now names) (sym (nat_cmp-IsAntisymmetric q x same)))
-          ∙ ap (λ (b : Bool). cond b (finite.get bytes q) None) was.2 ∙ holds_bytes.each q p was.0
-          ∙ ap Some (sym (bytes_same (image new) (image old) p.addr p.size (λ i below. goes.bytes (p.addr + i)
-          (rw state (used_part p.addr p.size (p.addr + i) 1 now.chunks (omega arith) (omega arith)
-          (used_filled now p (omega arith) was.1))))));
-    }
+  pub serves_back : (later : Noted) (source : Source) → GoesBack old (sent_back m.checkpoint old) → later.marks ≡ m ∷ older
+      → later.log ≡ take count noted.log
+      → ServesRun (GoBack name) Done (view old source) (view (sent_back m.checkpoint old) source) names held noted later
+  unfolding step placed_anew
+  serves_back later source goes marks log = record {
+    steps = λ bytes holds_bytes. (
+      finite.retain_keys bytes (is_left now names),
+      rw (found_from name noted.marks m older found, named_from name noted.marks, found, marks, held_left) refl,
+      record {
+        each = λ q p at.
+            let was = held_used q p at in
+            get-retain_keys bytes (is_left now names) q (λ x same. ap (is_left now names) (sym (nat_cmp-IsAntisymmetric q x same)))
+            ∙ ap (λ (b : Bool). cond b (finite.get bytes q) None) was.2 ∙ holds_bytes.each q p was.0
+            ∙ ap Some (sym (bytes_same (image (sent_back m.checkpoint old)) (image old) p.addr p.size (λ i below. goes.bytes (p.addr + i)
+            (used_part p.addr p.size (p.addr + i) 1 now.chunks (omega arith) (omega arith) (used_filled now p (omega arith) was.1)))));
+      },
+    );
+    asks = record { asked = λ marks bytes. asked_none source; statistics = λ marks bytes. refl };
+    holds = holds_back goes.valid.exit;
+    tracks = rw marks (subst (λ (l : List ℕ). AreTracked now held l (m ∷ older)) (sym log) tracked_back);
+    keeps = λ still entry kept keep_all.
+        let keep : KeepEntry entry.state old.state (m ∷ older) =
+        rw found at (from_some {P = KeepEntry entry.state old.state} (λ o rest both. both.1) name noted.marks keep_all) in (
+          record {
+            kept = record { used = keep.0; bytes = λ addr in_use. goes.bytes addr (keep.0 addr in_use) ∙ kept.kept.bytes addr in_use };
+            beside = λ q p at addr in_use. kept.beside q p (lets.less q p at) addr in_use;
+          },
+          rw marks (entry_back entry.state keep.0 (m ∷ older) (omega arith, suffix.1) suffix keep),
+        );
+  }

@@ -3,7 +3,8 @@ use Rattle.std.proofs.Common.{◌≡◌, ◌≢◌, ℕ, ◌-◌, ◌<◌, ◌�
 use Rattle.std.specs.Prelude.{◌||◌, ◌&&◌, nat_lt, if◌then◌else◌}
 use Rattle.std.specs.Option.{option_map_or}
 use Rattle.std.specs.FinMap as finite
-use Rattle.std.proofs.lemmas.Bool.{cases_eq, cases_lt}
+use Rattle.std.proofs.lemmas.Bool.{cases_eq, cases_lt, and_cases, and_right}
+use Rattle.std.proofs.lemmas.Bool.Decides.{nat_tests}
 use Rattle.std.proofs.lemmas.List.{length-map, length-append, take_at}
 use Rattle.std.proofs.lemmas.Option.{none-some, same_Some}
 use Rattle.arena_rules.specs.State.{State, Chunk, cursor_of, is_range_used, is_place_used}
@@ -15,7 +16,7 @@ use Rattle.arena_core.specs.Checkpoints.{mark_at}
 use Rattle.arena_chunks.specs.Runs.Marks.{Noted, named, AreWithin, IsAtCursor, Notes, stands, LetsGo}
 use Rattle.arena_chunks.specs.Runs.Serving.{Holds}
 use Rattle.arena_chunks.specs.declared.runs.marks.Mark.{Mark}
-use Rattle.call_rules.proofs.HeldLemmas.{get-inserted, get-insert_other, get-removed, get-remove_other}
+use Rattle.call_rules.proofs.HeldLemmas.{get-inserted, get-insert_other, get-removed, get-remove_other, less_removed}
 
 -- a test has one outcome
 pub not_both : {P : Type 0} (b : Bool) → b ≡ true → b ≡ false → P
@@ -25,22 +26,14 @@ not_both b is_true is_false = absurd (cc)
 pub not_standing : (state : State) (names : Held) (name : ℕ) → is_left state names name ≡ false → false ≡ stands state names name
 not_standing state names name lost = by (finite.get names name) refl
   where
-    none : (b : Bool) → false ≡ b && false
-    none true = refl
-    none false = refl
-
     by : (o : Option Place) → finite.get names name ≡ o → false ≡ stands state names name
     by None at = rw at refl
-    by (Some p) at =
-        let unused : is_place_used state p ≡ false = sym (ap (λ (o : Option Place). option_map_or (is_place_used state) o false) at) ∙ lost
-        in
-        rw (at, unused) (none (nat_lt 0 p.size))
+    by (Some p) at = rw at (sym (and_right (nat_lt 0 p.size) (is_place_used state p) (rw at at lost)))
 
 pub standing : (state : State) (names : Held) (name : ℕ) (p : Place) → finite.get names name ≡ Some p → is_left state names name ≡ true
     → nat_lt 0 p.size ≡ stands state names name
 standing state names name p at left =
-    let used : is_place_used state p ≡ true = sym (ap (λ (o : Option Place). option_map_or (is_place_used state) o false) at) ∙ left in
-    rw (at, used) (both (nat_lt 0 p.size))
+    let used : is_place_used state p ≡ true = rw at at left in rw (at, used) (both (nat_lt 0 p.size))
   where
     both : (b : Bool) → b ≡ b && true
     both true = refl
@@ -154,13 +147,11 @@ letting_next state names held next from name log some read fallen stays goes let
 
     empty : is_left state held name ≡ true → (p : Place) → finite.get held name ≡ Some p → p.size ≡ 0
     empty left p at =
-        let used : is_place_used state p ≡ true = sym (ap (λ (o : Option Place). option_map_or (is_place_used state) o false) at) ∙ left in
-        let none : nat_lt 0 p.size && is_place_used state p ≡ false =
-        sym (ap (λ (o : Option Place). option_map_or (λ (x : Place). nat_lt 0 x.size && is_place_used state x) o false) at) ∙ fallen in
-        elim (cases_lt 0 p.size) [
-          | inl more ↦ not_both (nat_lt 0 p.size && is_place_used state p) (rw (lt-ltb _ _ more, used) refl) none
-          | inr zero ↦ omega arith
-        ]
+        let none : nat_lt 0 p.size ≡ false = elim (and_cases (nat_lt 0 p.size) (is_place_used state p) (rw at at fallen)) [
+          | inl less ↦ less
+          | inr unused ↦ not_both (is_place_used state p) (rw at at left) unused
+        ] in
+        grind (arith, nat_tests)
 
     by : (b : Bool) → is_left state held name ≡ b → LetsGo state names next (from - 1) log
     by true left = rw (stays left) (record {
@@ -175,16 +166,11 @@ letting_next state names held next from name log some read fallen stays goes let
     by false gone = rw (goes gone) (record {
       within = omega (arith, lets.within);
       left = λ q is. get-remove_other held name q (other q is) ∙ lets.left q is;
-      less = λ q p at. elim (cases_eq q name) [
-        | inl same ↦ absurd (none-some p (sym (get-removed held name) ∙ ap (finite.get (finite.remove held name)) (sym same) ∙ at))
-        | inr differs ↦ lets.less q p (sym (get-remove_other held name q differs) ∙ at)
-      ];
-      ended = λ q p there at. elim (cases_eq q name) [
-        | inl same ↦ absurd (none-some p (sym (get-removed held name) ∙ ap (finite.get (finite.remove held name)) (sym same) ∙ at))
-        | inr differs ↦ elim (cases_lt there.0 from) [
-          | inr past ↦ lets.ended q p (there.0, past, there.2, there.3) (sym (get-remove_other held name q differs) ∙ at)
-          | inl here ↦ absurd (differs (sym (of_name q there.0 here there.1 there.3)))
-        ]
+      less = λ q p at. lets.less q p (less_removed held name q p at);
+      ended = λ q p there at. elim (cases_lt there.0 from) [
+        | inr past ↦ lets.ended q p (there.0, past, there.2, there.3) (less_removed held name q p at)
+        | inl here ↦ absurd (none-some p (sym (get-removed held name)
+            ∙ ap (finite.get (finite.remove held name)) (of_name q there.0 here there.1 there.3) ∙ at))
       ];
     })
       where

@@ -1,9 +1,10 @@
 -- The state of a run of calls over an arena, call by call.
-use Rattle.std.proofs.Common.{◌≡◌, ℕ, ◌+◌, ◌<◌, ◌≤◌, ap, refl, sym, subst, ◌∙◌, arith, List, [], ◌∷◌, ◌++◌, Bool, true, false, IsTrue, Option, Some, None, length, take, take_all, sum, append_assoc, append-nil}
-use Rattle.std.specs.Prelude.{◌||◌, slice_get}
+use Rattle.std.proofs.Common.{◌≡◌, ℕ, ◌+◌, ◌<◌, ◌≤◌, ap, refl, sym, subst, ◌∙◌, arith, List, [], ◌∷◌, ◌++◌, false, IsTrue, Option, Some, None, length, take, take_all, sum, append_assoc, append-nil}
+use Rattle.std.specs.Prelude.{slice_get}
 use Rattle.std.specs.Option.{option_map}
 use Rattle.std.specs.List.{list_any}
 use Rattle.std.specs.FinMap as finite
+use Rattle.std.proofs.lemmas.Bool.{or_parts}
 use Rattle.std.proofs.lemmas.Grind.{common_steps}
 use Rattle.std.proofs.lemmas.List.{map-append}
 use Rattle.std.proofs.lemmas.List.Folds.{list_any-append}
@@ -76,6 +77,7 @@ running_more entry old new names others noted later calls call replies reply run
     let k : ℕ = refused_of reply in
     let more = run_more (fresh entry.memory.state) (machine_of old.memory names (named noted.marks) running.bytes)
     (machine_of new.memory others (named later.marks) stepped.0) calls call (told replies) k replies reply running.ran stepped.1 in
+    let total : sum (told replies ++ k ∷ []) ≡ sum (told replies) + k = grind (arith, common_steps) in
     let telling : told (replies ++ reply ∷ []) ≡ told replies ++ k ∷ [] = map-append refused_of replies (reply ∷ []) in
     record {
       bytes = stepped.0;
@@ -83,23 +85,15 @@ running_more entry old new names others noted later calls call replies reply run
       held = stepped.2;
       holds = serves.holds;
       tracks = serves.tracks;
-      asked = rw (telling, total (told replies) k, more.1)
+      asked = rw (telling, total, more.1)
           (asked_more entry.source old.source new.source (sum (told replies)) k _ _ running.asked
           (serves.asks.asked (named noted.marks) running.bytes));
       statistics = rw (telling, more.2 entry.memory.statistics, ← running.statistics)
           (serves.asks.statistics (named noted.marks) running.bytes);
-      keeps = λ kept. let both = neither (list_any is_reset calls) (is_reset call) (sym (list_any-append is_reset calls (call ∷ [])) ∙ kept)
-          in
-          let before = running.keeps both.0 in serves.keeps both.1 entry.memory before.0 before.1;
+      keeps = λ kept.
+          let none = or_parts (list_any is_reset calls) _ (sym (list_any-append is_reset calls (call ∷ [])) ∙ kept) in
+          let before = running.keeps none.0 in serves.keeps (or_parts (is_reset call) false none.1).0 entry.memory before.0 before.1;
     }
-  where
-    total : (ks : List ℕ) (k : ℕ) → sum (ks ++ k ∷ []) ≡ sum ks + k
-    total ks k = grind (arith, common_steps)
-
-    neither : (a b : Bool) → (a || (b || false)) ≡ false → (a ≡ false) × (b ≡ false)
-    neither false false none = (refl, refl)
-    neither false true none = cc
-    neither true b none = cc
 
 -- the machine of the arena and its names, and what else is true of the run
 stands : (entry now : View) (names : Held) (noted : Noted) (calls : List Call) (replies : List Reply)

@@ -29,6 +29,7 @@ rewind-requires g c = (
 pub returns-clause-serves : goal.returns-clause-serves
 returns-clause-serves g c = λ source.
     let from = sym c.back_to-mark.ensures.marks ∙ c.back_to-mark.ensures.newest.1 in
-    let forgets = rw (c.back_to-mark.ensures.newest.1, c.back_to-mark.ensures.log) at c.forget.ensures in
-    serves_back _ _ _ _ _ _ c.args.name c.back_to-mark.result c.back_to-mark.ensures.newest.0 source c.requires.holds c.requires.tracks from
-    c.rewind.ensures.back c.rewind.ensures.memory forgets.marks forgets.from forgets.log forgets.lets forgets.over
+    let memory = c.rewind.ensures.memory in
+    let forgets = rw (c.back_to-mark.ensures.newest.1, c.back_to-mark.ensures.log, memory) at c.forget.ensures in
+    rw memory (serves_back _ _ _ _ c.args.name c.back_to-mark.result c.back_to-mark.ensures.newest.0 forgets.from c.requires.holds
+    c.requires.tracks from forgets.lets forgets.over _ source (rw memory at c.rewind.ensures.back) forgets.marks forgets.log)

@@ -5,43 +5,15 @@ use Rattle.std.proofs.lemmas.List.{get_or_read, get_or-take}
 use Rattle.call_rules.specs.Machine.{mark_named}
 use Rattle.arena_chunks.specs.Runs.Marks.{Noted, named, marks_from}
 use Rattle.arena_chunks.specs.declared.runs.marks.Mark.{Mark}
-use Rattle.arena_chunks.proofs.RunLemmas.Known.{ending_first, ending_next, ending_over, newest_first}
+use Rattle.arena_chunks.proofs.RunLemmas.Known.{IsEnding, ending_first, ending_next, ending_over, newest_first}
 use Rattle.arena_chunks.proofs.runs.marks.Marks.back_to.Goals as goal
 
 pub loop-count-init : goal.loop-count-init
 loop-count-init c =
     let all : c.len-count.result ≡ length c.self.inside.list.items = omega (arith, c.len-count.ensures, c.self.inside.list.ok.0) in
-    record {
-      list = refl;
-      log = refl;
-      ending = rw all (ending_first _ _ _ c.self.invariant
-          (subst (λ (n : Noted). IsTrue (is_some (mark_named (named n.marks) c.args.name))) (sym c.self.view_is) c.requires));
-    }
-
-pub overflow_sub-count : goal.overflow_sub-count
-overflow_sub-count c = omega (arith, c.loop-count.invariant.ending.some)
-
-pub index-requires : goal.index-requires
-index-requires c = omega (
-  arith,
-  c.loop-count.invariant.ending.some,
-  c.loop-count.invariant.ending.within,
-  c.loop-count.self-inside.list.ok.0,
-)
-
-pub overflow_sub-count-in-loop-count : goal.overflow_sub-count-in-loop-count
-overflow_sub-count-in-loop-count c = omega (arith, c.loop-count.invariant.ending.some)
-
-pub index-requires-in-loop-count : goal.index-requires-in-loop-count
-index-requires-in-loop-count c = omega (
-  arith,
-  c.loop-count.invariant.ending.some,
-  c.loop-count.invariant.ending.within,
-  c.loop-count.self-inside.list.ok.0,
-)
-
-pub loop-count-smaller : goal.loop-count-smaller
-loop-count-smaller c = omega (arith, c.loop-count.invariant.ending.some)
+    let ending : IsEnding c.self.inside.known c.self.inside.list.items c.len-count.result c.args.name = rw all (ending_first _ _ _
+    c.self.invariant (subst (λ (n : Noted). IsTrue (is_some (mark_named (named n.marks) c.args.name))) (sym c.self.view_is) c.requires))
+    in record { list = refl; log = refl; some = ending.some; within = ending.within; ending = ending }
 
 pub loop-count-preserved : goal.loop-count-preserved
 loop-count-preserved c =
@@ -53,24 +25,14 @@ loop-count-preserved c =
     ∙ sym c.index.ensures in
     let other : (m.name == c.args.name) ≡ false =
     ne_eqb m.name c.args.name (λ own. c.loop-count-test.true (ap (λ (x : Mark). x.name) (sym same) ∙ own)) in
+    let next = ending_next _ _ _ _ _ m c.index-in-loop-count.ensures other c.remove.ensures.updates ending in
     record {
       list = c.loop-count.invariant.list;
       log = c.loop-count.invariant.log;
-      ending = ending_next _ _ _ _ _ m c.index-in-loop-count.ensures other c.remove.ensures.updates ending;
+      some = next.some;
+      within = next.within;
+      ending = next;
     }
-
-pub overflow_sub-count-2 : goal.overflow_sub-count-2
-overflow_sub-count-2 c = omega (arith, c.loop-count.invariant.ending.some)
-
-pub index-requires-2 : goal.index-requires-2
-index-requires-2 c =
-    omega (
-      arith,
-      c.loop-count.invariant.ending.some,
-      c.loop-count.invariant.ending.within,
-      c.truncate.ensures.len,
-      c.loop-count.self-inside.list.ok.0,
-    )
 
 pub invariant_of-self : goal.invariant_of-self
 invariant_of-self c = rw c.truncate.ensures.items c.loop-count.invariant.ending.knows
