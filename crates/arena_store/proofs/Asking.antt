@@ -24,16 +24,6 @@ asking_at all rest e zero left = rw left refl
 asking_at [] rest e (suc refused) left = cc
 asking_at (x ∷ xs) rest e (suc refused) left = asking_at xs rest e refused left
 
-pub within_one_more : (all rest : List (ℕ × ℕ)) (e : ℕ × ℕ) (refused : ℕ) → drop refused all ≡ e ∷ rest → refused + 1 ≤ length all
-within_one_more all rest e refused left = omega (arith, length-drop refused all, ap length left)
-
-pub take_one_more : (all rest : List (ℕ × ℕ)) (e : ℕ × ℕ) (refused : ℕ) → drop refused all ≡ e ∷ rest
-    → take (refused + 1) all ≡ take refused all ++ e ∷ []
-take_one_more all rest e refused left = take-add refused 1 all ∙ ap (λ (l : List (ℕ × ℕ)). take refused all ++ take 1 l) left
-
-pub drop_one_more : (all rest : List (ℕ × ℕ)) (e : ℕ × ℕ) (refused : ℕ) → drop refused all ≡ e ∷ rest → drop (refused + 1) all ≡ rest
-drop_one_more all rest e refused left = sym (drop-drop 1 refused all) ∙ ap (λ (l : List (ℕ × ℕ)). drop 1 l) left
-
 -- one more request was made, and granted or refused
 pub asked_next : (all rest : List (ℕ × ℕ)) (base size align refused k : ℕ) (before mid now : Source)
     → drop refused all ≡ (base, size) ∷ rest
@@ -41,15 +31,17 @@ pub asked_next : (all rest : List (ℕ × ℕ)) (base size align refused k : ℕ
     → IsAsked before now (refused + k) (requests align (take (refused + 1) all))
 unfolding requests
 asked_next all rest base size align refused k before mid now left first second =
-    rw (take_one_more all rest (base, size) refused left, map-append)
+    let more : take (refused + 1) all ≡ take refused all ++ (base, size) ∷ [] = take-add refused 1 all
+    ∙ ap (λ (l : List (ℕ × ℕ)). take refused all ++ take 1 l) left in
+    rw (more, map-append)
     (asked_more before mid now refused k (requests align (take refused all)) ((size, max align 16) ∷ []) first second)
 
 pub asking_refused : (all rest : List (ℕ × ℕ)) (base size align refused : ℕ) (before mid now : Source)
     → Asking all ((base, size) ∷ rest) align refused before mid → IsAsked mid now 1 ((size, max align 16) ∷ [])
     → Asking all rest align (refused + 1) before now
 asking_refused all rest base size align refused before mid now asking asked = record {
-  left = drop_one_more all rest (base, size) refused asking.left;
-  within = within_one_more all rest (base, size) refused asking.left;
+  left = sym (drop-drop 1 refused all) ∙ ap (λ (l : List (ℕ × ℕ)). drop 1 l) asking.left;
+  within = omega (arith, length-drop refused all, ap length asking.left);
   asked = asked_next all rest base size align refused 1 before mid now asking.left asking.asked asked;
 }
 

@@ -4,7 +4,7 @@ use Rattle.std.specs.Prelude.{slice_index, nat_le}
 use Rattle.std.specs.List.Sorted.{IsStrictlyIncreasing}
 use Rattle.std.proofs.lemmas.Bool.{cases_lt}
 use Rattle.std.proofs.Math.Nat.{mul-le-mul_left, add-mul, mul-add, two-pow-succ}
-use Rattle.arena_store.specs.Table.{IsSplit, HasBelow, IsLastBelow}
+use Rattle.arena_store.specs.Table.{IsSplit, IsLastBelow}
 
 -- numbers that increase
 pub rises : (xs : List ℕ) (i j : ℕ) → IsStrictlyIncreasing xs → i ≤ j → j < length xs → slice_index xs i ≤ slice_index xs j
@@ -19,9 +19,6 @@ rises xs i (suc j) up le below = elim (cases_lt j i) [
 pub record IsCost (s m n : ℕ) : Type 0 where
   pub steps : 2 ^ s ≤ 2 * n + 1
   pub left : 2 ^ s * m ≤ n
-
-pub cost_first : (n : ℕ) → IsCost 0 n n
-cost_first n = record { steps = omega arith; left = omega arith }
 
 pub cost_more : (s t m half n : ℕ) → t ≡ suc s → 0 < m → half + half ≤ m → IsCost s m n → IsCost t half n
 cost_more s t m half n next some part is =
@@ -46,7 +43,7 @@ search_first bases addr n s all none = record {
   within = omega (arith, all);
   under = λ k below. absurd (omega arith);
   over = λ k from below. absurd (omega (arith, all));
-  cost = let rest : n - 0 ≡ length bases = omega (arith, all) in rw (rest, none) (cost_first (length bases));
+  cost = let rest : n - 0 ≡ length bases = omega (arith, all) in rw (rest, none) (record { steps = omega arith; left = omega arith });
 }
 
 module _ (bases : List ℕ) (addr low high s t : ℕ) (is : IsSearch bases addr low high s) (some : low < high) (next : t ≡ suc s)
@@ -134,18 +131,6 @@ split_last bases addr n b up some all at under = record {
   above = λ k from below. absurd (omega (arith, all));
 }
 
--- the last base is above the address, and all before it were read
-pub split_all : (bases : List ℕ) (addr i n : ℕ) → addr < slice_index bases (length bases - 1) → length bases - 1 ≤ i → i ≤ length bases
-    → IsSplitBelow bases addr i n → IsSplit bases addr n
-split_all bases addr i n over reach within is = record {
-  within = omega (arith, is.within);
-  low = is.low;
-  above = λ k from less. elim (cases_lt k i) [
-    | inl before ↦ is.above k from before
-    | inr at ↦ (let here : k ≡ length bases - 1 = omega (arith, at) in rw here over)
-  ];
-}
-
 -- the next base is read
 pub split_next : (bases : List ℕ) (addr i n b : ℕ) → IsStrictlyIncreasing bases → i < length bases → b ≡ slice_index bases i
     → IsSplitBelow bases addr i n → IsSplitBelow bases addr (i + 1) (n + mir.Val.bool_byte (nat_le b addr))
@@ -163,10 +148,3 @@ last_split bases addr n is some = record {
   low = is.low (n - 1) (omega (arith, some));
   above = λ k after below. is.above k (omega (arith, after)) below;
 }
-
--- there is one
-pub split_some : (bases : List ℕ) (addr n : ℕ) → IsSplit bases addr n → HasBelow bases addr → 0 < n
-split_some bases addr n is some = elim (cases_lt some.0 n) [
-  | inl before ↦ omega (arith, before)
-  | inr past ↦ absurd (omega (arith, some.2, is.above some.0 past some.1))
-]

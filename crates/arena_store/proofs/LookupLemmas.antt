@@ -12,6 +12,7 @@ use Rattle.arena_store.specs.declared.chunk.StoredChunk.{StoredChunk}
 use Rattle.arena_store.specs.declared.table.Kept.{Kept}
 use Rattle.arena_store.proofs.WrittenFrom.{length-written}
 use Rattle.arena_store.proofs.KeptLemmas.{items_is, items_length, oldest_is}
+use Rattle.arena_store.proofs.TableLemmas.{first_part, first_with, others_part, others_with}
 
 module _ (addr : ℕ) where
   last_rest : (b : ℕ) (bases : List ℕ) (i : ℕ) → IsLastBelow (b ∷ bases) addr (suc i) → IsLastBelow bases addr i
@@ -48,12 +49,12 @@ module _ (addr : ℕ) where
     decided (suc i) older (b ∷ bases) (x ∷ kept) k same last at =
         decided i (chunk_of b x ∷ older) bases kept k (omega (arith, same)) (last_rest b bases i last) at
 
+  number_past : (c : StoredChunk) (older : List StoredChunk) → addr < c.base → number_in addr (c ∷ older) ≡ number_in addr older
+  number_past c older above = let test : nat_le c.base addr ≡ false = grind (arith, nat_tests) in rw test refl
+
   none_below : (bases : List ℕ) (kept : List Kept) → length bases ≡ length kept
       → ((k : ℕ) → k < length bases → addr < slice_index bases k) → number_in addr (chunks_onto [] bases kept) ≡ None
-  none_below bases kept same above = skipped (number_in addr) past [] bases kept same above
-    where
-      past : (c : StoredChunk) (older : List StoredChunk) → addr < c.base → number_in addr (c ∷ older) ≡ number_in addr older
-      past c older above = let test : nat_le c.base addr ≡ false = grind (arith, nat_tests) in rw test refl
+  none_below bases kept same above = skipped (number_in addr) number_past [] bases kept same above
 
   number_at : (bases : List ℕ) (kept : List Kept) (i : ℕ) (k : Kept) → IsTable bases kept → IsLastBelow bases addr i → k ≡ get_or kept i k
       → number_in addr (chunks_onto [] bases kept)
@@ -65,21 +66,14 @@ module _ (addr : ℕ) where
       let older : length (chunks_onto [] (take i bases) (take i kept)) ≡ i = ap length (sym (oldest_is bases kept 0 _ table refl i before))
       ∙ length-drop (length (chunks_onto [] bases kept) - i) (chunks_onto [] bases kept)
       ∙ omega (arith, items_length bases kept 0 _ table refl, before) in
-      decided (number_in addr) past i [] bases kept k table.pairs last at ∙ rw (test, older) refl
-    where
-      past : (c : StoredChunk) (older : List StoredChunk) → addr < c.base → number_in addr (c ∷ older) ≡ number_in addr older
-      past c older above = let test : nat_le c.base addr ≡ false = grind (arith, nat_tests) in rw test refl
+      decided (number_in addr) number_past i [] bases kept k table.pairs last at ∙ rw (test, older) refl
 
   part_at : (n : ℕ) (bases : List ℕ) (kept : List Kept) (i : ℕ) (k : Kept) → length bases ≡ length kept → IsLastBelow bases addr i
       → k ≡ get_or kept i k
       → part_in (chunks_onto [] bases kept) addr n ≡ take n (drop (addr - slice_index bases i) k.bytes.items)
   part_at n bases kept i k same last at =
-      let low = last.low in
-      let test : nat_le (slice_index bases i) addr ≡ true = grind (arith, nat_tests) in
-      decided (λ l. part_in l addr n) past i [] bases kept k same last at ∙ rw test refl
-    where
-      past : (c : StoredChunk) (older : List StoredChunk) → addr < c.base → part_in (c ∷ older) addr n ≡ part_in older addr n
-      past c older above = let test : nat_le c.base addr ≡ false = grind (arith, nat_tests) in rw test refl
+      decided (λ l. part_in l addr n) (λ c older above. others_part c older addr above n) i [] bases kept k same last at
+      ∙ first_part (chunk_of (slice_index bases i) k) (chunks_onto [] (take i bases) (take i kept)) addr last.low n
 
   -- ---- A part in use
 
@@ -117,10 +111,8 @@ module _ (addr : ℕ) where
   with_past list older [] kept same above = refl
   with_past list older (b ∷ bases) [] same above = absurd (omega (arith, same))
   with_past list older (b ∷ bases) (k ∷ kept) same above =
-      let high = above 0 (omega arith) in
-      let test : nat_le b addr ≡ false = grind (arith, nat_tests) in
       with_past list (chunk_of b k ∷ older) bases kept (omega (arith, same)) (λ j below. above (suc j) (omega (arith, below)))
-      ∙ ap (λ (l : List StoredChunk). chunks_onto l bases kept) (rw test refl)
+      ∙ ap (λ (l : List StoredChunk). chunks_onto l bases kept) (others_with (chunk_of b k) older addr (above 0 (omega arith)) list)
 
   with_at : (list : List ℕ) (i : ℕ) (older : List StoredChunk) (bases : List ℕ) (kept : List Kept) (k : Kept) → length bases ≡ length kept
       → IsLastBelow bases addr i → k ≡ get_or kept i k → addr - slice_index bases i ≤ length k.bytes.items
@@ -129,13 +121,11 @@ module _ (addr : ℕ) where
   with_at list i older [] kept k same last at fits = absurd (omega (arith, last.within))
   with_at list i older (b ∷ bases) [] k same last at fits = absurd (omega (arith, same))
   with_at list zero older (b ∷ bases) (x ∷ kept) k same last at fits =
-      let low : b ≤ addr = last.low in
-      let test : nat_le b addr ≡ true = grind (arith, nat_tests) in
       let sized = length-written k.bytes.items list (addr - b) fits in
       let chunk : chunk_of b (kept_with k (addr - b) list) ≡ with_part (chunk_of b x) addr list = rw (sized, at) refl in
       sym (with_past list (chunk_of b x ∷ older) bases kept (omega (arith, same)) (rest_above b bases last)
       ∙ ap (λ (l : List StoredChunk). chunks_onto l bases kept)
-      (rw test (ap (λ (c : StoredChunk). c ∷ older) (sym chunk))))
+      (first_with (chunk_of b x) older addr last.low list ∙ ap (λ (c : StoredChunk). c ∷ older) (sym chunk)))
   with_at list (suc i) older (b ∷ bases) (x ∷ kept) k same last at fits =
       with_at list i (chunk_of b x ∷ older) bases kept k (omega (arith, same)) (last_rest b bases i last) at fits
 
@@ -172,9 +162,6 @@ module _ (bases : List ℕ) (kept : List Kept) (spare : ℕ) (t : Chunks) (table
   same : chunks_onto [] bases kept ≡ t.items
   same = items_is bases kept spare t table view
 
-  pub row_within : i < length kept
-  row_within = omega (arith, last.within, table.pairs)
-
   pub found_number : (k : Kept) → k ≡ get_or kept i k
       → number_in addr t.items ≡ (if nat_le at (length k.bytes.items) then Some i else None)
   found_number k here =
@@ -187,7 +174,7 @@ module _ (bases : List ℕ) (kept : List Kept) (spare : ℕ) (t : Chunks) (table
   module _ (n : ℕ) (has : HasPartIn t.items addr n) where
     pub found_bytes : HasBytes kept i at n
     found_bytes = record {
-      within = row_within;
+      within = omega (arith, last.within, table.pairs);
       ready = λ k here. let is = found k here in omega (arith, offset, is.ready, is.used, last.low);
       range = λ k here. let is = found k here in omega (arith, offset, is.high, last.low);
     }
