@@ -18,7 +18,7 @@ use Rattle.arena_rules.proofs.RoundingLemmas.{layout_power, up_close, power_posi
 use Rattle.arena_rules.proofs.UsedResizeLemmas.{resize_stays, resize_moves, resize_refused}
 use Rattle.arena_rules.proofs.AskedSizeLemmas.{all_requests, newest_short, one_chunk, asks_some}
 use Rattle.arena_rules.proofs.AnySizeLemmas.{asks_any}
-use Rattle.arena_rules.proofs.GrownLemmas.{grown_not, cursor_grown, dealloc_grown, alloc_grown, IsFailed, alloc_failed}
+use Rattle.arena_rules.proofs.GrownLemmas.{grown_not, cursor_grown, dealloc_grown, alloc_grown, alloc_failed}
 use Rattle.arena_rules.proofs.AskingLemmas.{asks_nothing, asks_by, refused_by}
 use Rattle.arena_store.specs.Memory.{Memory}
 use Rattle.arena_store.specs.Source.{View, IsAsked}
@@ -65,10 +65,8 @@ module _ (bytes : ℕ) (old new : View) (block : Block) (size align : ℕ) (layo
     (fits : used_bytes old.memory.state + size + (unit_of old.memory.state align - 1) ≤ bytes) where
   way_requests : (way : Resizing) (k : ℕ) → IsValid old.memory.state
       → AllByRecursion (IsRequestWithin (most_asked bytes)) (resize_requests way old.memory.state size align k)
-  way_requests Stays k valid = tt
-  way_requests (Moves q) k valid = tt
   way_requests Anew k valid = all_requests old.memory.state size align k bytes valid small fits
-  way_requests NotGrown k valid = tt
+  way_requests way k valid = tt
 
   way_grown : (way : Resizing) (k : ℕ) (outcome : Outcome) → IsValid old.memory.state
       → resize way old.memory.state block.addr size align k ≡ Some outcome → HasGrown old.memory.state outcome.state
@@ -106,12 +104,6 @@ asks_given_back bytes old new b gives source =
 
 -- ---- Calls that are refused
 
--- what an allocation that fails has asked for
-made_some : (state : State) (size align k : ℕ) → IsFailed state size align k → 0 < length (asked state size align)
-    → 0 < length (alloc_requests state size align k)
-unfolding requests
-made_some state size align k failed some = rw (failed.none, failed.all) (simp (length-map, length-take) (omega arith))
-
 -- a block was to be allocated, and there was no place for it
 abbrev IsUnplaced : View → View → ℕ → ℕ → Type 0
 IsUnplaced old new size align = (k : ℕ) × (alloc old.memory.state size align k ≡ Some (record { answer = None; state = old.memory.state }))
@@ -120,10 +112,11 @@ IsUnplaced old new size align = (k : ℕ) × (alloc old.memory.state size align 
 -- If some chunk may be asked for, the source has refused.
 alloc_starved : (old new : View) (size align : ℕ) → IsTrue (is_layout size align) → 0 < length (asked old.memory.state size align)
     → IsUnplaced old new size align → IsRefusedBySource old new
+unfolding requests
 alloc_starved old new size align layout some (k, step, asked, valid) =
     let failed = alloc_failed old.memory.state old.memory.state size align k valid (layout_power size align layout) step in
     refused_by k (alloc_requests old.memory.state size align k) old.source new.source asked (omega (arith, failed.all, some))
-    (made_some old.memory.state size align k failed some)
+    (rw (failed.none, failed.all) (simp (length-map, length-take) (omega arith)))
 
 starved_few : (old new : View) (size align : ℕ) → IsTrue (is_layout size align) → align ≤ 16 → size ≤ 2 ^ 60
     → old.memory.state.is_growing ≡ true → top_of old.memory.state.chunks ≤ 2 ^ 63 + 2 ^ 62 → IsUnplaced old new size align

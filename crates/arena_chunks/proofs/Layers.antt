@@ -63,8 +63,6 @@ pub use Rattle.arena_core.proofs.LayerLemmas.{
 pub use Rattle.arena_core.proofs.LayerLemmas.{
   placed_apart,
   placed_pairwise,
-  placed_is_block,
-  resized_is_block,
   shrunk_placed,
   returned_bytes,
   returned_plain,

@@ -5,12 +5,11 @@ use Rattle.std.specs.List.{flat_map}
 use Rattle.std.proofs.lemmas.Bool.Decides.{nat_tests}
 use Rattle.std.proofs.lemmas.List.{length-append, take_more, flat_map_more}
 use Rattle.arena_rules.specs.Rounding.{up, is_power_among, is_layout}
-use Rattle.arena_rules.specs.State.{IsValid}
 use Rattle.arena_rules.proofs.RoundingLemmas.{up_same}
 use Rattle.arena_store.specs.Memory.{Memory, bytes_from}
 use Rattle.arena_core.specs.BlockCalls.{WritesBlock}
 use Rattle.arena_store.specs.declared.block.Block.{Block}
-use Rattle.arena_core.proofs.LayerLemmas.{writes_more, writes_nothing}
+use Rattle.arena_core.proofs.LayerLemmas.{writes_more}
 
 bytes_layout : (size : ℕ) → is_layout size 1 ≡ nat_le size (2 ^ 63 - 1)
 unfolding is_power_among
@@ -27,12 +26,6 @@ many_bytes size many = bytes_layout size ∙ grind (arith, nat_tests)
 pub record HasTexts {X : Type 0} (f : X → List ℕ) (xs : List X) (i : ℕ) (old new : Memory) (block : Block) (at : ℕ) : Type 0 where
   pub writes : WritesBlock old new block 0 (flat_map f (take i xs))
   pub reached : at ≡ length (flat_map f (take i xs))
-
-pub no_texts : {X : Type 0} (f : X → List ℕ) (xs : List X) (m : Memory) (block : Block) → IsValid m.state → HasTexts f xs 0 m m block 0
-no_texts f xs m block valid = record {
-  writes = writes_nothing m block 0 valid (omega arith);
-  reached = refl;
-}
 
 -- One more string is written.
 pub one_more_text : {X : Type 0} (f : X → List ℕ) (xs : List X) (i : ℕ) (x : X) (old mid new : Memory) (block : Block) (at : ℕ)

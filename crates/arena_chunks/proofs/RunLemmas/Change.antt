@@ -1,6 +1,6 @@
 -- What a call that changes one name's block does to the others.
-use Rattle.std.proofs.Common.{◌≡◌, ◌≢◌, ℕ, ◌+◌, ◌-◌, ◌%◌, ◌<◌, ◌≤◌, ◌⊎◌, inl, inr, ap, sym, subst, ◌∙◌, arith, List, true, false, Some, IsTrue, length, eq-eqb}
-use Rattle.std.specs.Prelude.{◌==◌, ◌&&◌, nat_le, nat_lt}
+use Rattle.std.proofs.Common.{◌≡◌, ◌≢◌, ℕ, ◌+◌, ◌-◌, ◌%◌, ◌<◌, ◌≤◌, ◌⊎◌, inl, inr, ap, sym, subst, ◌∙◌, arith, List, true, Some, IsTrue, length, eq-eqb}
+use Rattle.std.specs.Prelude.{◌==◌}
 use Rattle.std.specs.FinMap as finite
 use Rattle.std.proofs.lemmas.Bool.{cases_eq, cases_lt, or_left, or_right}
 use Rattle.std.proofs.lemmas.Option.{same_Some}
@@ -44,11 +44,6 @@ pub beside_apart : (m : ℕ) (b : Place) (addr n : ℕ) → 0 < m → IsBeside m
 beside_apart m b addr n positive beside = λ many some.
     let reach = up_ge (b.addr + b.size) m positive in
     elim (beside (omega arith) many) [ inl above ↦ inr (omega arith) | inr under ↦ inl (omega arith) ]
-
--- an address apart from a padded place is none of n addresses in it
-outside : (m : ℕ) (b : Place) (addr from n : ℕ) → 0 < m → b.addr ≤ from → from + n ≤ b.addr + b.size → IsBeside m b addr 1
-    → (nat_le from addr && nat_lt addr (from + n)) ≡ false
-outside m b addr from n positive low high beside = beside_range addr b.addr b.size from n (beside_apart m b addr 1 positive beside) low high
 
 used_place : (state : State) (p : Place) → (0 < p.size → IsTrue (is_range_used state.chunks p.addr p.size)) → IsTrue (is_place_used state p)
 used_place state p used = elim (cases_lt 0 p.size) [
@@ -218,8 +213,8 @@ change_written old mid new names after name a b at list valid change within same
           (change.used addr n some used beside);
       bytes = λ addr used beside. writes addr
           ∙ written_beside (image mid) (b.addr + at) addr list
-          (outside old.state.min_align b addr (b.addr + at) (length list) positive (omega arith) (omega arith)
-          (change.beside addr used beside))
+          (beside_range addr b.addr b.size (b.addr + at) (length list)
+          (beside_apart old.state.min_align b addr 1 positive (change.beside addr used beside)) (omega arith) (omega arith))
           ∙ change.bytes addr used beside;
       gone = change.gone;
       beside = change.beside;

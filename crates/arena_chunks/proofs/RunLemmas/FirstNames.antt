@@ -1,6 +1,6 @@
 -- Blocks that names hold, where the places of the first names are in a list: what changes with a place in the list, or
 -- elsewhere.
-use Rattle.std.proofs.Common.{◌≡◌, ◌≢◌, ℕ, zero, suc, ◌+◌, ◌<◌, ◌≤◌, ◌⊎◌, inl, inr, ap, refl, sym, ◌∙◌, arith, List, [], ◌∷◌, ◌++◌, cond, Option, Some, None, length, get_or, drop}
+use Rattle.std.proofs.Common.{◌≡◌, ◌≢◌, ℕ, zero, suc, ◌+◌, ◌<◌, ◌≤◌, ◌⊎◌, inl, inr, ap, refl, sym, ◌∙◌, arith, List, [], ◌∷◌, cond, Option, Some, None, length, get_or, drop}
 use Rattle.std.specs.Prelude.{slice_set}
 use Rattle.std.specs.Ordering.{nat_cmp, eq_by_cmp}
 use Rattle.std.specs.Cmp.{nat_cmp_total}
@@ -120,12 +120,6 @@ pub void_holds : (i : ℕ) (places : List (Option Place)) → IsVoid places → 
 void_holds i [] void = refl
 void_holds i (None ∷ places) void = void_holds (i + 1) places (λ k. void (suc k))
 void_holds i (Some p ∷ places) void = absurd (none-some p (sym (void 0)))
-
-pub void_more : (places : List (Option Place)) → IsVoid places → IsVoid (places ++ None ∷ [])
-void_more [] void zero = refl
-void_more [] void (suc k) = refl
-void_more (o ∷ places) void zero = void 0
-void_more (o ∷ places) void (suc k) = void_more places (λ j. void (suc j)) k
 
 pub void_below : (places : List (Option Place)) → ((k : ℕ) → k < length places → get_or places k None ≡ None) → IsVoid places
 void_below [] none k = refl

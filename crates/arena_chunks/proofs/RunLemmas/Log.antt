@@ -46,10 +46,6 @@ pub notes_still : (state : State) (names held : Held) (noted : Noted)
     → ((q : ℕ) (p : Place) → finite.get held q ≡ Some p → finite.get names q ≡ Some p) → Notes state names held noted noted
 notes_still state names held noted less = record { marks = refl; log = λ some. inl (refl, λ q p at. (p, less q p at, refl, omega arith)) }
 
--- the newest note removed again
-pub taken_back : (log : List ℕ) (name : ℕ) → take (length (log ++ name ∷ []) - 1) (log ++ name ∷ []) ≡ log
-taken_back log name = take_at log (name ∷ []) _ (omega (arith, length-append log (name ∷ [])))
-
 -- a name was noted, and the note was removed again if the block stayed
 pub notes_settled : (state : State) (names held : Held) (old mid new : Noted) (name : ℕ) (stayed : Bool) → mid.marks ≡ old.marks
     → (0 < length old.marks → mid.log ≡ old.log ++ name ∷ []) → new.marks ≡ mid.marks
@@ -64,18 +60,13 @@ notes_settled state names held old mid new name stayed same noted still settled 
     by some true is =
         let log : new.log ≡ take (length mid.log - 1) mid.log = settled (omega (arith, ap length same))
         ∙ ap (λ (b : Bool). if b then take (length mid.log - 1) mid.log else mid.log) is in
-        inl (log ∙ ap (λ (l : List ℕ). take (length l - 1) l) (noted some) ∙ taken_back old.log name, within is)
+        inl (log ∙ ap (λ (l : List ℕ). take (length l - 1) l) (noted some) ∙ take_at old.log (name ∷ []) _ (omega (arith, length-append old.log (name ∷ []))), within is)
     by some false is =
         let log : new.log ≡ mid.log = settled (omega (arith, ap length same))
         ∙ ap (λ (b : Bool). if b then take (length mid.log - 1) mid.log else mid.log) is in
         inr (name, log ∙ noted some, there is)
 
--- the note stays, or is removed again if the call was refused
-pub notes_placed : (state : State) (names held : Held) (old new : Noted) (name : ℕ) → new.marks ≡ old.marks
-    → (0 < length old.marks → new.log ≡ old.log ++ name ∷ [])
-    → IsAtCursor state names held name → Notes state names held old new
-notes_placed state names held old new name same noted there = record { marks = same; log = λ some. inr (name, noted some, there) }
-
+-- the note is removed again if the call was refused
 pub notes_refused : (state : State) (names : Held) (old mid new : Noted) (name : ℕ) → mid.marks ≡ old.marks
     → (0 < length old.marks → mid.log ≡ old.log ++ name ∷ [])
     → new.marks ≡ mid.marks → (0 < length mid.marks → new.log ≡ take (length mid.log - 1) mid.log) → Notes state names names old new

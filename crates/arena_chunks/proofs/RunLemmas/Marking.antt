@@ -1,6 +1,6 @@
 -- Marks, and what remains true of them after each call.
-use Rattle.std.proofs.Common.{◌≡◌, ◌≢◌, ℕ, ◌+◌, ◌≤◌, inl, inr, ap, refl, sym, subst, ◌∙◌, arith, List, [], ◌∷◌, ◌++◌, Bool, true, false, IsTrue, Option, Some, None, length, get_or}
-use Rattle.std.specs.Option.{is_some, is_none}
+use Rattle.std.proofs.Common.{◌≡◌, ◌≢◌, ℕ, ◌+◌, ◌≤◌, inl, inr, ap, refl, sym, subst, ◌∙◌, arith, List, [], ◌∷◌, ◌++◌, Bool, true, false, IsTrue, Some, length, get_or}
+use Rattle.std.specs.Option.{is_some}
 use Rattle.std.specs.List.{AllByRecursion}
 use Rattle.std.specs.FinMap as finite
 use Rattle.std.proofs.lemmas.Bool.{cases_eq, cases_lt}
@@ -212,11 +212,6 @@ marks_still call reply memory names noted source holds tracks none steps asks = 
   tracks = tracks;
   keeps = λ still entry keeps keep. (keeps, keep);
 }
-
--- a mark of a new name may take memory
-pub none_named : (o : Option Point) → is_some o ≡ false → IsTrue (is_none o)
-none_named None is = refl
-none_named (Some mark) is = cc
 
 pub serves_mark : (memory : Memory) (names : Held) (noted later : Noted) (name : ℕ) (source : Source) → Holds memory.state names
     → Tracks memory.state names noted

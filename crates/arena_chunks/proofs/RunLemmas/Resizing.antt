@@ -1,5 +1,5 @@
 -- What a call that resizes a name's block does to an arena and its names.
-use Rattle.std.proofs.Common.{◌≡◌, ◌≢◌, ℕ, ◌+◌, ◌-◌, ◌<◌, ◌≤◌, ◌⊎◌, ◌++◌, min, length, take, inl, inr, ap, refl, sym, ◌∙◌, arith, List, [], ◌∷◌, true, false, Option, Some, None, IsTrue, replicate, eqb-true, eq-eqb}
+use Rattle.std.proofs.Common.{◌≡◌, ◌≢◌, ℕ, ◌+◌, ◌-◌, ◌<◌, ◌≤◌, ◌⊎◌, ◌++◌, min, length, take, inl, inr, refl, sym, ◌∙◌, arith, List, [], ◌∷◌, true, false, Option, Some, None, IsTrue, replicate, eqb-true, eq-eqb}
 use Rattle.std.specs.Prelude.{◌==◌, ◌&&◌, nat_lt}
 use Rattle.std.specs.Option.{is_none, option_and_then}
 use Rattle.std.specs.FinMap as finite
@@ -24,9 +24,9 @@ use Rattle.arena_rules.proofs.MarkLemmas.{resize_keeps}
 use Rattle.arena_rules.proofs.MoveLemmas.{grow_moved, shrink_moved}
 use Rattle.arena_rules.proofs.PlacedLemmas.{resize_at_cursor, grow_at_cursor}
 use Rattle.arena_store.specs.Memory.{Memory, Writes, image, bytes_from, block_at}
-use Rattle.arena_store.specs.Source.{Source, View, view}
+use Rattle.arena_store.specs.Source.{Source, view}
 use Rattle.arena_core.specs.Frame.{Frame}
-use Rattle.arena_core.specs.Answers.Answer.{Placed as PlacedAt, Refused, Exhausted}
+use Rattle.arena_core.specs.Answers.Answer.{Placed as PlacedAt, Refused}
 use Rattle.arena_core.specs.BlockCalls.{ResizesAfter, WritesBlock}
 use Rattle.arena_chunks.specs.Runs.{HoldsBytes}
 use Rattle.arena_chunks.specs.Runs.Marks.{Noted, named, AreWithin, IsAtCursor}
@@ -172,12 +172,6 @@ resizing_still fill reply memory names noted name size align source holds none p
       (λ marks bytes. resizing_counts fill name size align reply (machine_of memory names marks bytes) memory.statistics placed)),
   notes_still memory.state names names noted (λ q p at. at),
 )
-
--- memory runs out only if the block is allocated again, which leaves everything as it was
-pub resizing_wants : (fill : Option ℕ) (old new : View) (p : Place) (size align k : ℕ) → ResizesFilling fill old new p size align k Exhausted
-    → (way_of fill old.memory.state p size align ≡ Anew) × (new ≡ old)
-resizing_wants fill old new p size align k filling =
-    (filling.resizes.outcome.0, ap (λ (m : Memory). view m new.source) filling.fills ∙ filling.resizes.outcome.1.same)
 
 -- memory may run out if the block is allocated again, or if there is a mark
 pub resizing_takes : (fill : Option ℕ) (memory : Memory) (names : Held) (marks : List Mark) (bytes : Contents) (name size align : ℕ)

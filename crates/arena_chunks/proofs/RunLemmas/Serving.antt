@@ -1,5 +1,5 @@
 -- What a call on one name's block does to an arena and its names.
-use Rattle.std.proofs.Common.{◌≡◌, ℕ, ◌+◌, ◌-◌, ◌<◌, ◌≤◌, ap, refl, sym, subst, ◌∙◌, arith, List, [], ◌∷◌, true, false, Option, Some, None, IsTrue, length, replicate, eq-eqb}
+use Rattle.std.proofs.Common.{◌≡◌, ℕ, ◌+◌, ◌-◌, ◌≤◌, ap, refl, sym, subst, ◌∙◌, arith, List, [], ◌∷◌, true, false, Option, Some, None, IsTrue, length, replicate, eq-eqb}
 use Rattle.std.specs.Prelude.{nat_lt}
 use Rattle.std.specs.Option.{is_some}
 use Rattle.std.specs.FinMap as finite
@@ -195,9 +195,6 @@ serves_placed call k old new names name a b before later holds change steps asks
 abbrev nothing : Place
 nothing = record { addr = 0; size = 0; align = 1 }
 
-nothing_padded : (m : ℕ) → 0 < m → padded_size m 0 0 ≡ 0
-nothing_padded m positive = padded_empty m nothing positive (omega arith) refl
-
 pub serves_alloc : (old mid new : Memory) (names : Held) (name size align fill k : ℕ) (block : Block) (before later : Source)
     → Holds old.state names → finite.get names name ≡ None
     → true ≡ is_layout size align → PlacesAfter (view old before) (view mid later) size align k (PlacedAt block)
@@ -219,7 +216,7 @@ serves_alloc old mid new names name size align fill k block before later holds n
     let moved = moved_anew old.state nothing size align k (record { answer = Some p; state = mid.state }) holds.valid
     (layout_power size align (sym good)) placed.step in
     let change = change_placed old mid names name size align p nothing [] (block ∷ []) holds
-    (λ filled. absurd (omega (arith, nothing_padded old.state.min_align positive))) good moved places.valid.exit placed.frame
+    (λ filled. absurd (omega (arith, padded_empty old.state.min_align nothing positive (omega arith) refl))) good moved places.valid.exit placed.frame
     (λ addr n beside. tt)
     (λ mark accepted. alloc_keeps mark old.state size align k (record { answer = Some p; state = mid.state }) accepted placed.step) in
     let served = serves_placed (Alloc name size align fill) k old new names name nothing b before later holds

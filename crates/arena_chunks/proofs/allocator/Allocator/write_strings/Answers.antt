@@ -1,10 +1,12 @@
-use Rattle.std.proofs.Common.{rules, refl}
+use Rattle.std.proofs.Common.{rules, refl, arith}
 use Rattle.std.proofs.lemmas.List.Folds.{length-flat_map-take}
-use Rattle.arena_chunks.proofs.TextLemmas.{no_texts, one_more_text}
+use Rattle.arena_core.proofs.LayerLemmas.{writes_nothing}
+use Rattle.arena_chunks.proofs.TextLemmas.{one_more_text}
 use Rattle.arena_chunks.proofs.allocator.Allocator.write_strings.Goals as goal
 
 pub loop-s-init : goal.loop-s-init
-loop-s-init g c = (no_texts g.T.AsStr.text c.args.strings.now c.args.self.now.memory c.args.block c.known.ensures.valid, refl)
+loop-s-init g c =
+    (record { writes = writes_nothing c.args.self.now.memory c.args.block 0 c.known.ensures.valid (omega arith); reached = refl }, refl)
 
 pub write-requires-clause-readable : goal.write-requires-clause-readable
 write-requires-clause-readable g c = search rules

@@ -1,4 +1,4 @@
-use Rattle.std.proofs.Common.{ap, ◌∙◌, refl}
+use Rattle.std.proofs.Common.{ap, ◌∙◌, refl, inr}
 use Rattle.std.specs.Option.{is_some}
 use Rattle.call_rules.specs.Machine.{step}
 use Rattle.call_rules.specs.Requests.{placed_anew}
@@ -6,7 +6,7 @@ use Rattle.call_rules.specs.declared.calls.Call.TheVariants.{Alloc}
 use Rattle.call_rules.specs.declared.calls.Reply.TheVariants.{AllocErr}
 use Rattle.arena_core.proofs.AnswerLemmas.{on_err}
 use Rattle.call_rules.proofs.HeldLemmas.{get-inserted, insert_again, remove_inserted}
-use Rattle.arena_chunks.proofs.RunLemmas.Log.{notes_still, notes_placed, notes_refused}
+use Rattle.arena_chunks.proofs.RunLemmas.Log.{notes_still, notes_refused}
 use Rattle.arena_chunks.proofs.RunLemmas.Serving.{none_of, asks_still, serves_still, serves_alloc}
 use Rattle.arena_chunks.proofs.runs.serve.serve_alloc.Goals as goal
 
@@ -39,8 +39,10 @@ returns-in-Ok-clause-serves g c =
     let served = serves_alloc c.args.arena.now c.alloc_counted.new.self c.fill.new.self c.args.run.now.names c.args.wanted.name
     c.args.wanted.size c.args.wanted.align c.args.fill
     c.in-Ok.refused c.in-Ok.block _ _ c.requires free c.in-Some.ensures.valid (rw (value.0, value.1) at c.in-Ok.ensures) c.fill.ensures in
-    rw (c.replace.ensures, c.in_ok-insert.ensures.ok, insert_again, c.at-in-Ok.ensures)
-    (served.0, notes_placed _ _ _ _ _ c.args.wanted.name c.note.ensures.marks c.in_ok-note.ensures.log served.1)
+    rw (c.replace.ensures, c.in_ok-insert.ensures.ok, insert_again, c.at-in-Ok.ensures) (
+      served.0,
+      record { marks = c.note.ensures.marks; log = λ some. inr (c.args.wanted.name, c.in_ok-note.ensures.log some, served.1) },
+    )
 
 pub returns-in-Err-AllocErr-clause-serves : goal.returns-in-Err-AllocErr-clause-serves
 unfolding step placed_anew

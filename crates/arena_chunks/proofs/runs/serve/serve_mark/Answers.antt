@@ -4,8 +4,8 @@ use Rattle.call_rules.specs.Requests.{placed_anew}
 use Rattle.call_rules.specs.declared.calls.Call.TheVariants.{Mark}
 use Rattle.call_rules.specs.declared.calls.Reply.TheVariants.{NameTaken}
 use Rattle.arena_core.proofs.AnswerLemmas.{on_err}
-use Rattle.arena_chunks.proofs.RunLemmas.Serving.{asks_still}
-use Rattle.arena_chunks.proofs.RunLemmas.Marking.{marks_still, serves_mark, none_named}
+use Rattle.arena_chunks.proofs.RunLemmas.Serving.{none_of, asks_still}
+use Rattle.arena_chunks.proofs.RunLemmas.Marking.{marks_still, serves_mark}
 use Rattle.arena_chunks.proofs.runs.serve.serve_mark.Goals as goal
 
 pub returns-then-has-clause-serves : goal.returns-then-has-clause-serves
@@ -25,4 +25,4 @@ returns-clause-serves g c = λ source.
 pub returns-in_err-set-clause-wants : goal.returns-in_err-set-clause-wants
 unfolding placed_anew
 returns-in_err-set-clause-wants g c = λ source.
-    on_err c.from_residual.result (record { takes = λ bytes. none_named _ (sym c.if-has.ensures); same = refl })
+    on_err c.from_residual.result (record { takes = λ bytes. rw (none_of _ c.if-has.ensures) refl; same = refl })

@@ -1,11 +1,13 @@
-use Rattle.std.proofs.Common.{◌≡◌, inl, inr, arith, sym, ◌∙◌, refl}
+use Rattle.std.proofs.Common.{◌≡◌, inl, inr, ap, arith, sym, ◌∙◌, refl}
 use Rattle.std.specs.Prelude.{◌==◌, ◌&&◌}
 use Rattle.std.specs.Option.{is_none}
+use Rattle.arena_store.specs.Memory.{Memory}
+use Rattle.arena_store.specs.Source.{view}
 use Rattle.call_rules.specs.declared.calls.Reply.TheVariants.{NoSuchName, BadLayout, OutOfRange}
 use Rattle.arena_core.proofs.AnswerLemmas.{on_err}
 use Rattle.arena_chunks.proofs.RunLemmas.Log.{notes_settled, notes_refused}
 use Rattle.arena_chunks.proofs.RunLemmas.Serving.{readable_at, absent_at, found_at}
-use Rattle.arena_chunks.proofs.RunLemmas.Resizing.{resizing_still, resizing_wants, resizing_takes, serves_resized, serves_unresized}
+use Rattle.arena_chunks.proofs.RunLemmas.Resizing.{resizing_still, resizing_takes, serves_resized, serves_unresized}
 use Rattle.arena_chunks.proofs.runs.serve.serve_resize.Goals as goal
 use Rattle.arena_chunks.proofs.runs.serve.serve_resize.Goals.{then-is_none, else-is_none}
 
@@ -87,12 +89,11 @@ returns-in-Err-OutOfMemory-clause-wants g c =
     let found = sym c.get.ensures ∙ c.in-Some.is in
     let value = c.in-Some-new.ensures.value in
     let right = sym c.is_wrong.ensures ∙ c.if-is_wrong.false in
-    let wants = resizing_wants c.args.fill _ _ c.in-Some.place c.args.wanted.size c.args.wanted.align
-    _ (rw (value.0, value.1) at (rw c.in-Err-OutOfMemory.field-0-is at c.in-Err-OutOfMemory.ensures)) in record {
+    let filling = rw (value.0, value.1) at (rw c.in-Err-OutOfMemory.field-0-is at c.in-Err-OutOfMemory.ensures) in record {
       takes = λ bytes. resizing_takes c.args.fill c.args.arena.now c.args.run.now.names _ bytes c.args.wanted.name c.args.wanted.size
           c.args.wanted.align c.in-Some.place found
-          c.in-Some-new.ensures.valid right (inl wants.0);
-      same = wants.1;
+          c.in-Some-new.ensures.valid right (inl filling.resizes.outcome.0);
+      same = ap (λ (m : Memory). view m (g.C.ChunkSource.source c.resize.new.chunks)) filling.fills ∙ filling.resizes.outcome.1.same;
     }
 
 pub returns-in_err-note-clause-wants : goal.returns-in_err-note-clause-wants
