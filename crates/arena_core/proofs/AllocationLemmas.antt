@@ -1,10 +1,9 @@
 -- What is true of an arena after a block was placed.
-use Rattle.std.proofs.Common.{◌≡◌, ℕ, ◌+◌, ◌-◌, ◌≤◌, max, inl, inr, ap, sym, refl, subst, ◌∙◌, arith, true, false, IsTrue, Some, None, Err, eq-eqb}
-use Rattle.std.specs.Prelude.{nat_le, ◌==◌, ◌&&◌}
-use Rattle.std.proofs.lemmas.Bool.{cases_lt, or_left, or_right}
+use Rattle.std.proofs.Common.{◌≡◌, ℕ, ◌+◌, ◌-◌, ◌≤◌, max, ap, sym, refl, subst, ◌∙◌, arith, true, false, IsTrue, Some, None, Err}
+use Rattle.std.specs.Prelude.{nat_le}
 use Rattle.std.proofs.lemmas.Bool.Decides.{nat_tests}
 use Rattle.arena_rules.specs.Rounding.{down, is_layout}
-use Rattle.arena_rules.specs.State.{State, IsValid, is_range_used, start_of, cursor_of}
+use Rattle.arena_rules.specs.State.{State, IsValid, start_of, cursor_of}
 use Rattle.arena_rules.specs.Search.{place, place_below, alloc_requests}
 use Rattle.arena_rules.proofs.RoundingLemmas.{layout_power}
 use Rattle.arena_rules.proofs.PlaceLemmas.{IsPlace, is_place}
@@ -21,11 +20,12 @@ use Rattle.arena_store.specs.Source.{Source, view, IsAsked}
 use Rattle.arena_core.specs.Adding.{IsAdded, AddsChunk, OnFound, placed_at, IsPlacing}
 use Rattle.arena_core.specs.Answers.{OnCounted}
 use Rattle.arena_core.specs.Answers.Answer.{Placed}
-use Rattle.arena_core.specs.BlockCalls.{PlacesAfter}
+use Rattle.arena_core.specs.BlockCalls.{IsBlockOf, PlacesAfter}
 use Rattle.arena_store.specs.declared.block.ArenaErr.{ArenaErr}
 use Rattle.arena_store.specs.declared.block.ArenaErr.TheVariants.{AllocErr, OutOfMemory}
 use Rattle.arena_store.specs.declared.block.Block.{Block}
 use Rattle.arena_core.proofs.FrameLemmas.{byte_moved, frame_new}
+use Rattle.arena_core.proofs.ResizedLemmas.{block_of}
 use Rattle.arena_core.proofs.StoredLemmas.{view_of, moved_chunk, cursor_view, IsCursor}
 
 -- a cursor may move down to a place
@@ -111,17 +111,8 @@ block_placed old new before after size align k p b valid layout placing asked is
       outcome = record {
         step = placing.step;
         asked = asked;
-        of_layout = record {
-          generation = sym fresh.generation;
-          of_size = refl;
-          of_align = refl;
-          readable = elim (cases_lt 0 size) [
-            | inr none ↦ or_left (size == 0) (old.state.generation == new.state.generation && is_range_used new.state.chunks p size)
-                (eq-eqb _ _ (omega arith))
-            | inl some ↦ or_right (size == 0) (old.state.generation == new.state.generation && is_range_used new.state.chunks p size)
-                (rw (eq-eqb _ _ (sym fresh.generation)) (fresh.used some))
-          ];
-        };
+        of_layout = subst (λ (g : ℕ). IsBlockOf new.state size align (record { generation = g; addr = p; size = size; align = align }))
+            fresh.generation (block_of new.state p size align fresh.used);
         aligned = record { own = fresh.aligned; least = rw fresh.min_align fresh.min_aligned };
         statistics = placing.statistics;
         frame = frame_new old new size align (record { generation = old.state.generation; addr = p; size = size; align = align }) valid

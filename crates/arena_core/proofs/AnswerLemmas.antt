@@ -1,6 +1,6 @@
 -- Results of calls that place a block.
 use Rattle.std.proofs.Common.{ℕ, Result, Ok, Err}
-use Rattle.std.specs.Prelude.{OnOk, OnErr, IfOk}
+use Rattle.std.specs.Prelude.{OnOk, OnErr}
 use Rattle.arena_core.specs.Answers.{Answer, answer_of, OnCounted}
 use Rattle.arena_store.specs.declared.block.ArenaErr.{ArenaErr}
 use Rattle.arena_store.specs.declared.block.ArenaErr.TheVariants.{AllocErr, OutOfMemory}
@@ -24,8 +24,3 @@ on_err_less (Err e) less holds = less holds
 pub on_ok_less : {X E P Q : Type 0} → (r : Result X E) → (P → Q) → OnOk r P → OnOk r Q
 on_ok_less (Ok x) less holds = less holds
 on_ok_less (Err e) less holds = tt
-
--- Two facts of a value give a third.
-pub if_ok_both : {X E : Type 0} {P Q R : X → Type 0} → (r : Result X E) → ((x : X) → P x → Q x → R x) → IfOk r P → IfOk r Q → IfOk r R
-if_ok_both (Ok x) both first second = both x first second
-if_ok_both (Err e) both first second = tt

@@ -1,6 +1,7 @@
 -- The number of the chunk that has an address.
 use Rattle.std.proofs.Common.{◌≡◌, ℕ, ◌+◌, ◌-◌, ◌<◌, ◌≤◌, ap, sym, refl, subst, ◌∙◌, arith, Option, Some, None, List, [], ◌∷◌, length, true, false, Bool, inl, inr, leb-true}
-use Rattle.std.specs.Prelude.{nat_le, ◌==◌, ◌&&◌, if◌then◌else◌}
+use Rattle.std.specs.Prelude.{nat_le, ◌==◌, if◌then◌else◌}
+use Rattle.std.proofs.lemmas.Bool.{and_right}
 use Rattle.std.proofs.lemmas.Bool.Decides.{nat_tests}
 use Rattle.std.proofs.lemmas.List.{length-map}
 use Rattle.arena_rules.specs.State.{AreChunks, floor_of}
@@ -19,12 +20,8 @@ none_under : (m addr : ℕ) (chunks : List StoredChunk) → AreChunks m (chunks_
 none_under m addr [] valid over = refl
 none_under m addr (c ∷ older) valid over =
     let past : nat_le addr (c.base + length c.bytes.items) ≡ false = grind (arith, nat_tests) in
-    let none : has_address addr (stored_chunk c) ≡ false = rw past (no_more (nat_le c.base addr)) in
+    let none : has_address addr (stored_chunk c) ≡ false = and_right (nat_le c.base addr) _ past in
     rw none (none_under m addr older valid.2 (omega (arith, valid.1, over)))
-  where
-    no_more : (b : Bool) → (b && false) ≡ false
-    no_more true = refl
-    no_more false = refl
 
 -- so the first that begins at or below an address decides
 number_same : (m addr : ℕ) (chunks : List StoredChunk) → AreChunks m (chunks_in chunks)
@@ -70,11 +67,3 @@ module _ (m : ℕ) (a : Inside m) (memory : Memory) where
   pub no_number : (addr : ℕ) → Stands m a → view_of m a ≡ memory → a.newest.base ≡ 16 → None ≡ chunk_number addr memory.state.chunks
   no_number addr stands view none = subst (λ (w : Memory). None ≡ chunk_number addr w.state.chunks) view
       (elim (kind m a stands) [ inl empty ↦ rw empty.0 refl | inr some ↦ absurd (differs a.newest.base some none) ])
-
-  -- there are as many chunks as in the table, or one more
-  pub table_below : Stands m a → view_of m a ≡ memory → length a.older.items ≤ length memory.state.chunks
-  table_below stands view = subst (λ (w : Memory). length a.older.items ≤ length w.state.chunks) view
-      (elim (kind m a stands) [
-        | inl none ↦ rw none.0 (omega (arith, ap length none.2.older))
-        | inr some ↦ rw some (omega (arith, length-map a.older.items stored_chunk))
-      ])

@@ -13,13 +13,12 @@ use Rattle.arena_rules.proofs.RoundingLemmas.{up_ge, power_positive, max_power, 
 use Rattle.arena_rules.proofs.AllocLemmas.{entry_of, valid_grown}
 use Rattle.arena_store.specs.Memory.{Memory}
 use Rattle.arena_region.specs.Bytes.{Bytes}
-use Rattle.arena_store.specs.Stored.{all_chunks, IsReady, IsStored, IsTopmost}
+use Rattle.arena_store.specs.Stored.{all_chunks, IsReady, IsStored}
 use Rattle.arena_store.specs.Source.{Source, view}
 use Rattle.arena_core.specs.Adding.{AddsChunk}
 use Rattle.arena_store.specs.declared.chunk.StoredChunk.{StoredChunk}
 use Rattle.arena_core.specs.declared.arena.Arena.TheInside.{Inside}
 use Rattle.arena_store.proofs.AskedLemmas.{asked_none}
-use Rattle.arena_store.proofs.TableLemmas.{chunks_in}
 use Rattle.arena_core.proofs.StoredLemmas.{kind, view_with, view_of, Stands}
 
 -- an arena that doesn't grow asks for nothing
@@ -97,17 +96,6 @@ module _ (m : ℕ) (a : Inside m) where
     | inl none ↦ rw (is, none.0) stands.older_ready
     | inr some ↦ rw (is, some) (All-cons IsReady a.newest a.older.items stands.ready stands.older_ready)
   ]
-
-  -- the newest chunk begins above all of the table
-  pub topmost : Stands m a → IsTopmost a.newest.base a.older.items
-  topmost stands = elim (kind m a stands) [
-    | inl none ↦ subst (IsTopmost a.newest.base) (sym none.2.older) tt
-    | inr some ↦ let valid = rw some at stands.valid in under a.older.items valid.chunks.1
-  ]
-    where
-      under : (older : List StoredChunk) → floor_of (chunks_in older) ≤ a.newest.base → IsTopmost a.newest.base older
-      under [] above = tt
-      under (c ∷ older) above = omega (arith, above)
 
   pub record IsInstalled (memory : Memory) (base : ℕ) (bytes : List ℕ) (newest : StoredChunk) (older : List StoredChunk) : Type 0 where
     pub view : view_with m a newest older

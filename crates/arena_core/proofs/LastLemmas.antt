@@ -1,9 +1,8 @@
 -- The block at the cursor, and its return.
-use Rattle.std.proofs.Common.{◌≡◌, ℕ, ◌+◌, ◌-◌, ◌<◌, ◌≤◌, ◌^◌, ◌∙◌, ap, sym, subst, arith, refl, inl, inr, IsTrue, Bool, true, false}
-use Rattle.std.specs.Prelude.{◌||◌, ◌&&◌, ◌==◌}
+use Rattle.std.proofs.Common.{◌≡◌, ℕ, ◌+◌, ◌-◌, ◌<◌, ◌≤◌, ◌^◌, ◌∙◌, ap, sym, subst, arith, refl, inl, inr, IsTrue}
 use Rattle.std.proofs.lemmas.Bool.{cases_eq}
 use Rattle.arena_rules.specs.Rounding.{up}
-use Rattle.arena_rules.specs.State.{State, IsValid, cursor_of, top_of, is_range_used}
+use Rattle.arena_rules.specs.State.{State, IsValid, cursor_of, top_of}
 use Rattle.arena_rules.proofs.RoundingLemmas.{min_align_le}
 use Rattle.arena_rules.proofs.CursorLemmas.{top_le}
 use Rattle.arena_rules.specs.Moves.{dealloc}
@@ -14,6 +13,7 @@ use Rattle.arena_store.specs.declared.block.Block.{Block}
 use Rattle.arena_core.specs.declared.arena.Arena.TheInside.{Inside}
 use Rattle.arena_core.proofs.StoredLemmas.{view_of, Stands, cursor_stored}
 use Rattle.arena_core.proofs.FrameLemmas.{byte_moved, frame_dealloc}
+use Rattle.arena_core.proofs.ReadableLemmas.{readable_used}
 
 -- a block at the cursor
 pub record IsLast (m : ℕ) (memory : Memory) (block : Block) : Type 0 where
@@ -23,16 +23,10 @@ pub record IsLast (m : ℕ) (memory : Memory) (block : Block) : Type 0 where
   pub fits : block.addr + block.size + (m - 1) < 2 ^ 64
   pub unit : m ≡ memory.state.min_align
 
-either : (a b c : Bool) → IsTrue (a || (b && c)) → IsTrue (a || c)
-either true b c h = refl
-either false true c h = h
-either false false c h = cc
-
 pub last_ends : (state : State) (block : Block) → IsValid state → IsTrue (is_readable state block) → block.addr ≡ cursor_of state.chunks
     → block.addr + block.size ≤ top_of state.chunks
 last_ends state block valid readable at =
-    block_end state (record { addr = block.addr; size = block.size; align = block.align }) valid
-    (either (block.size == 0) (block.generation == state.generation) (is_range_used state.chunks block.addr block.size) readable) at
+    block_end state (place_of block) valid (readable_used state block readable) at
 
 pub is_last : (m : ℕ) (a : Inside m) (memory : Memory) (block : Block) → Stands m a → view_of m a ≡ memory
     → IsTrue (is_readable memory.state block) → block.addr ≡ a.newest.cursor
@@ -55,6 +49,15 @@ pub last_returned : (m : ℕ) (memory : Memory) (block : Block) (q : ℕ) → Is
 last_returned m memory block q last is = is_return memory.state block.addr block.size q last.valid last.at last.ends
     (is ∙ ap (up (block.addr + block.size)) last.unit)
 
+-- No byte changes when a block is given back.
+pub dealloc_bytes : (old : Memory) (block : Block) (p : ℕ)
+    → image (record old { state = dealloc old.state block.addr block.size }) p ≡ image old p
+dealloc_bytes old block p = elim (cases_eq block.addr (cursor_of old.state.chunks)) [
+  | inl at ↦ rw (dealloc_at old.state block.addr block.size at)
+      (byte_moved (up (block.addr + block.size) old.state.min_align) old.state.chunks old.bytes p)
+  | inr other ↦ rw (dealloc_elsewhere old.state block.addr block.size other) refl
+]
+
 -- The effects of giving a block back by the rule.
 pub gives_back : (old new : Memory) (block : Block) → IsValid old.state → IsTrue (is_readable old.state block)
     → new ≡ record old { state = dealloc old.state block.addr block.size }
@@ -63,17 +66,8 @@ gives_back old new block valid readable is = record {
   valid = record {
     entry = valid;
     exit = subst (λ (w : Memory). IsValid w.state) (sym is)
-        (dealloc_valid old.state (place_of block) valid
-        (either (block.size == 0) (block.generation == old.state.generation)
-        (is_range_used old.state.chunks block.addr block.size) readable));
+        (dealloc_valid old.state (place_of block) valid (readable_used old.state block readable));
   };
   memory = is;
-  frame = frame_dealloc old new block is (λ p. ap (λ (w : Memory). image w p) is ∙ same_bytes p);
+  frame = frame_dealloc old new block is (λ p. ap (λ (w : Memory). image w p) is ∙ dealloc_bytes old block p);
 }
-  where
-    same_bytes : (p : ℕ) → image (record old { state = dealloc old.state block.addr block.size }) p ≡ image old p
-    same_bytes p = elim (cases_eq block.addr (cursor_of old.state.chunks)) [
-      | inl at ↦ rw (dealloc_at old.state block.addr block.size at)
-          (byte_moved (up (block.addr + block.size) old.state.min_align) old.state.chunks old.bytes p)
-      | inr other ↦ rw (dealloc_elsewhere old.state block.addr block.size other) refl
-    ]

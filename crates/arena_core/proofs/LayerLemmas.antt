@@ -1,33 +1,32 @@
 -- What the calls on blocks mean for a layer above.
-use Rattle.std.proofs.Common.{◌≡◌, ℕ, zero, suc, ◌+◌, ◌*◌, ◌^◌, ◌<◌, ◌≤◌, List, [], ◌∷◌, ◌++◌, length, map, sum, inl, inr, ap, refl, sym, ◌∙◌, arith, IsTrue, Bool, true, false}
+use Rattle.std.proofs.Common.{◌≡◌, ℕ, zero, suc, ◌+◌, ◌*◌, ◌^◌, ◌<◌, ◌≤◌, List, [], ◌∷◌, ◌++◌, length, map, sum, inl, inr, ap, refl, sym, ◌∙◌, arith, IsTrue, false}
 use Rattle.std.specs.List.{AllByRecursion}
-use Rattle.std.specs.Prelude.{nat_lt, nat_le, ◌==◌, ◌&&◌, ◌||◌}
-use Rattle.std.proofs.lemmas.Bool.{cases_lt, cases_eq, cond_both, or_cases}
+use Rattle.std.specs.Prelude.{nat_lt, nat_le, ◌==◌, ◌&&◌}
+use Rattle.std.proofs.lemmas.Bool.{cases_lt, cond_both, or_cases}
 use Rattle.std.proofs.lemmas.Bool.Decides.{nat_tests}
 use Rattle.std.proofs.lemmas.Grind.{common_steps}
 use Rattle.std.proofs.lemmas.List.Sums.{sum_by-cons}
 use Rattle.std.proofs.lemmas.Option.{cond_some}
-use Rattle.arena_rules.specs.Rounding.{up, is_layout}
 use Rattle.arena_rules.specs.State.{State, Chunk, IsValid, AreApart, AreChunks, cursor_of, used_length, used_bytes, is_used_by, is_range_used}
 use Rattle.arena_rules.specs.Moves.{Outcome, Resizing, shrink_step, placed, stays, fails}
 use Rattle.arena_rules.specs.Moves.Resizing.{Moves, Stays as StaysThere}
 use Rattle.arena_rules.specs.Lists.{splice}
-use Rattle.arena_rules.specs.State.{is_place_used}
-use Rattle.arena_rules.specs.Blocks.{IsBlock, padded_size}
+use Rattle.arena_rules.specs.Blocks.{padded_size}
 use Rattle.arena_rules.proofs.UsedLemmas.{used_low, used_below_last}
 use Rattle.arena_rules.proofs.UsedResizeLemmas.{padded_exact}
-use Rattle.arena_rules.proofs.ReturnLemmas.{dealloc_at, dealloc_elsewhere}
 use Rattle.arena_store.specs.Memory.{Memory, is_readable, image, bytes_from, written}
 use Rattle.arena_store.specs.Source.{View}
 use Rattle.arena_core.specs.Answers.{Answer}
 use Rattle.arena_core.specs.Answers.Answer.{Placed, Exhausted, Refused as AnswerRefused}
 use Rattle.arena_core.specs.Frame.{IsApart, AreBlocksApart, ArePairwiseApart, Frame, Stays, padded}
-use Rattle.arena_core.specs.BlockCalls.{place_of, PlacesBlock, ResizesAfter, ResizesBlock, ShrinksBlock, GivesBack, WritesBlock}
+use Rattle.arena_core.specs.BlockCalls.{PlacesBlock, ResizesAfter, ShrinksBlock, GivesBack, WritesBlock}
 use Rattle.arena_core.specs.Resizes.{NoneReadable}
 use Rattle.arena_store.specs.declared.block.Block.{Block}
 use Rattle.arena_store.proofs.BytesLemmas.{written_none}
 use Rattle.arena_core.proofs.WrittenLemmas.{bytes_spliced}
-use Rattle.arena_core.proofs.FrameLemmas.{apart_turned, byte_moved}
+use Rattle.arena_core.proofs.LastLemmas.{dealloc_bytes}
+pub use Rattle.arena_core.proofs.ReadableLemmas.{readable_used}
+use Rattle.arena_core.proofs.FrameLemmas.{apart_turned}
 use Rattle.arena_core.proofs.FrameRules.{frame_then, frame_weaken, frame_keeps, is_filled}
 use Rattle.arena_core.proofs.BlockCallLemmas.{wrote, wrote_first, wrote_after, writes_block}
 
@@ -69,15 +68,6 @@ unused_chunks (newest ∷ older) addr n used some =
 pub unused_unreadable : (state : State) → used_bytes state ≡ 0 → NoneReadable state
 unused_unreadable state used b some = let none = unused_chunks state.chunks b.addr b.size used some in grind (arith, nat_tests)
 
--- A readable block is in use or empty.
-pub readable_used : (state : State) (b : Block) → IsTrue (is_readable state b) → IsTrue (is_place_used state (place_of b))
-readable_used state b = go (b.size == 0) (b.generation == state.generation) (is_range_used state.chunks b.addr b.size)
-  where
-    go : (none same used : Bool) → IsTrue (none || (same && used)) → IsTrue (none || used)
-    go true same used readable = refl
-    go false true used readable = readable
-    go false false used readable = cc
-
 -- ---- What stays
 
 -- in a call that had no block
@@ -92,18 +82,6 @@ pub frame_keeps_beside : (old new : Memory) (one : Block) (after : List Block) (
 frame_keeps_beside old new one after b frame readable apart = frame_keeps old new (one ∷ []) after b frame readable (apart, tt)
 
 -- ---- A new block
-
--- It is one of the arena's.
-pub placed_is_block : (old new : View) (size align : ℕ) (b : Block) → IsTrue (is_layout size align)
-    → PlacesBlock old new size align (Placed b) → IsBlock new.memory.state (place_of b)
-placed_is_block old new size align b layout places =
-    let is = places.1.outcome in
-    record {
-      layout = rw (is.of_layout.of_size, is.of_layout.of_align) layout;
-      aligned = is.aligned.own;
-      min_aligned = is.aligned.least;
-      used = readable_used new.memory.state b is.of_layout.readable;
-    }
 
 -- It is apart from all readable blocks.
 pub placed_apart : (old new : View) (size align : ℕ) (b : Block) (bs : List Block) → PlacesBlock old new size align (Placed b)
@@ -120,21 +98,6 @@ placed_apart old new size align b (c ∷ bs) places readable = (beside, placed_a
 pub placed_pairwise : (old new : View) (size align : ℕ) (b : Block) (bs : List Block) → PlacesBlock old new size align (Placed b)
     → AllByRecursion (λ (c : Block). IsTrue (is_readable old.memory.state c)) bs → ArePairwiseApart bs → ArePairwiseApart (b ∷ bs)
 placed_pairwise old new size align b bs places readable apart = (placed_apart old new size align b bs places readable, apart)
-
--- ---- A block that is resized
-
--- If the old block is one of the arena's, so is the new one.
-pub resized_is_block : (way : Resizing) (old new : View) (block b : Block) (size align : ℕ) → IsTrue (is_layout size align)
-    → ResizesBlock way old new block size align (Placed b)
-    → IsBlock old.memory.state (place_of block) → IsBlock new.memory.state (place_of b)
-resized_is_block way old new block b size align layout resizes before =
-    let is = resizes.1.outcome in
-    record {
-      layout = rw (is.of_layout.of_size, is.of_layout.of_align) layout;
-      aligned = (is.aligned before).own;
-      min_aligned = (is.aligned before).least;
-      used = readable_used new.memory.state b is.of_layout.readable;
-    }
 
 -- ---- A block that shrinks without a greater alignment
 
@@ -176,11 +139,7 @@ shrunk_placed old new block size align answer lower shrinks =
 
 -- No byte changes.
 pub returned_bytes : (old new : Memory) (b : Block) (addr : ℕ) → GivesBack old new b → image new addr ≡ image old addr
-returned_bytes old new b addr gives = ap (λ (w : Memory). image w addr) gives.memory ∙ elim (cases_eq b.addr (cursor_of old.state.chunks)) [
-  | inl at ↦ rw (dealloc_at old.state b.addr b.size at)
-      (byte_moved (up (b.addr + b.size) old.state.min_align) old.state.chunks old.bytes addr)
-  | inr other ↦ rw (dealloc_elsewhere old.state b.addr b.size other) refl
-]
+returned_bytes old new b addr gives = ap (λ (w : Memory). image w addr) gives.memory ∙ dealloc_bytes old b addr
 
 -- With least alignment 1, only the use of the block's own bytes changes.
 pub returned_plain : (old new : Memory) (b : Block) → GivesBack old new b → old.state.min_align ≡ 1 → Frame old new (b ∷ []) []

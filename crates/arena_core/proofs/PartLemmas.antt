@@ -49,10 +49,7 @@ pub record IsRewritten (chunks new : List StoredChunk) (addr : ℕ) (list : List
 module _ (m addr n : ℕ) where
   pub has_part : (chunks : List StoredChunk) → AreChunks m (chunks_in chunks) → All IsReady chunks → 0 < n
       → IsTrue (is_range_used (chunks_in chunks) addr n) → HasPartIn chunks addr n
-  has_part [] valid ready some used = absurd (none used)
-    where
-      none : IsTrue false → ⊥
-      none no_way = cc
+  has_part [] valid ready some used = absurd cc
   has_part (c ∷ older) valid ready some used =
       elim (or_cases (is_used_by addr n (stored_chunk c)) (is_range_used (chunks_in older) addr n) used) [
         | inl here ↦
@@ -85,15 +82,14 @@ module _ (m addr n : ℕ) where
   part_bytes (c ∷ older) valid has = elim has [
     | inl here ↦
         let low = here.0 in
-        let test : nat_le c.base addr ≡ true = grind (arith, nat_tests) in
-        rw test (bytes_part (bytes_in (c ∷ older)) c.bytes.items addr (addr - c.base) n (omega (arith, low, here.1.high)) (λ i below.
-        byte_here c older (addr + i) (omega (arith, low)) ∙ ap (slice_index c.bytes.items) (omega (arith, low))))
+        first_part c older addr low n
+        ∙ bytes_part (bytes_in (c ∷ older)) c.bytes.items addr (addr - c.base) n (omega (arith, low, here.1.high)) (λ i below.
+        byte_here c older (addr + i) (omega (arith, low)) ∙ ap (slice_index c.bytes.items) (omega (arith, low)))
     | inr there ↦
-        let high = there.0 in
-        let test : nat_le c.base addr ≡ false = grind (arith, nat_tests) in
         let under = part_under older valid.2 there.1 in
-        rw test (part_bytes older valid.2 there.1 ∙ bytes_same (bytes_in older) (bytes_in (c ∷ older)) addr n (λ i below.
-        sym (byte_below c older (addr + i) (omega (arith, under, valid.1, below)))))
+        others_part c older addr there.0 n ∙ part_bytes older valid.2 there.1
+        ∙ bytes_same (bytes_in older) (bytes_in (c ∷ older)) addr n (λ i below.
+        sym (byte_below c older (addr + i) (omega (arith, under, valid.1, below))))
   ]
 
   pub rewritten : (chunks : List StoredChunk) (list : List ℕ) → All IsReady chunks → HasPartIn chunks addr n
@@ -175,7 +171,7 @@ module _ (m : ℕ) (a : Inside m) (memory : Memory) where
   is_range addr n stands view some used =
       let here = subst (λ (w : Memory). IsTrue (is_range_used w.state.chunks addr n)) (sym view) used in
       elim (cases_Bool (a.newest.base == 16)) [
-        | inl none ↦ absurd (none_used (rw none at here))
+        | inl none ↦ absurd (let no_way : IsTrue false = rw none at here in cc)
         | inr chunk ↦
             let valid : AreChunks m (chunks_in (a.newest ∷ a.older.items)) = rw chunk at stands.valid.chunks in
             record {
@@ -187,9 +183,6 @@ module _ (m : ℕ) (a : Inside m) (memory : Memory) where
               has = has_part m addr n (a.newest ∷ a.older.items) valid (ready_all stands) some (rw chunk at here);
             }
       ]
-    where
-      none_used : IsTrue false → ⊥
-      none_used no_way = cc
 
   pub block_range : (block : Block) (at n : ℕ) → Stands m a → view_of m a ≡ memory → IsTrue (is_readable memory.state block)
       → at + n ≤ block.size → (n ≡ 0 → ⊥) → IsRange (block.addr + at) n

@@ -1,5 +1,5 @@
 -- A block in place of another: what is true of it, and of the rest of an arena.
-use Rattle.std.proofs.Common.{◌≡◌, ℕ, ◌+◌, ◌-◌, ◌%◌, ◌^◌, ◌<◌, ◌≤◌, min, inl, inr, ap, sym, refl, subst, ◌∙◌, arith, [], ◌∷◌, IsTrue, Some, Err, true, false, length, eq-eqb}
+use Rattle.std.proofs.Common.{◌≡◌, ℕ, ◌+◌, ◌-◌, ◌%◌, ◌^◌, ◌<◌, ◌≤◌, min, inl, inr, ap, sym, refl, subst, ◌∙◌, arith, [], ◌∷◌, IsTrue, Some, true, false, length, eq-eqb}
 use Rattle.std.specs.Prelude.{◌==◌, ◌&&◌, nat_lt}
 use Rattle.std.proofs.lemmas.Bool.{cases_lt, or_left, or_right}
 use Rattle.std.proofs.lemmas.Bool.Decides.{nat_tests}
@@ -17,27 +17,24 @@ use Rattle.arena_rules.proofs.AllocLemmas.{alloc_newest}
 use Rattle.arena_rules.proofs.ReturnLemmas.{allocated_moved}
 use Rattle.arena_rules.proofs.MoveLemmas.{grow_moved, shrink_moved}
 use Rattle.arena_store.specs.Memory.{Memory, image, is_readable, bytes_from, written, Writes}
-use Rattle.arena_store.specs.Source.{Source, View, view}
+use Rattle.arena_store.specs.Source.{Source, view}
 use Rattle.arena_core.specs.Frame.{Frame}
-use Rattle.arena_core.specs.Answers.{OnCounted}
 use Rattle.arena_core.specs.Answers.Answer.{Placed, Refused as AnswerRefused}
 use Rattle.arena_core.specs.BlockCalls.{place_of, IsBlockOf, IsAligned, PlacesAfter, ResizesAfter}
 use Rattle.arena_core.specs.Resizes.{Resizes, IsResizedUnasked, replaced}
 use Rattle.arena_store.specs.declared.block.Block.{Block}
-use Rattle.arena_store.specs.declared.block.ArenaErr.{ArenaErr}
-use Rattle.arena_store.specs.declared.block.ArenaErr.TheVariants.{AllocErr, OutOfMemory}
 use Rattle.arena_store.proofs.AskedLemmas.{asked_none}
 use Rattle.arena_store.proofs.BytesLemmas.{length-bytes, written_beside}
 use Rattle.arena_core.proofs.WrittenLemmas.{bytes_same, bytes_written}
-use Rattle.arena_core.proofs.FrameLemmas.{apart_part, behind, beside_range}
-use Rattle.arena_core.proofs.FrameRules.{frame_reflexive, frame_weaken}
+use Rattle.arena_core.proofs.FrameLemmas.{apart_part, behind, beside_range, frame_written}
+use Rattle.arena_core.proofs.FrameRules.{frame_reflexive, frame_then, frame_weaken}
 use Rattle.arena_core.proofs.ReadableLemmas.{readable_part}
 
 -- the block of the state's generation at an address
 abbrev pub block_in : State → ℕ → ℕ → ℕ → Block
 block_in state p size align = record { generation = state.generation; addr = p; size = size; align = align }
 
-block_of : (state : State) (p size align : ℕ) → (0 < size → IsTrue (is_range_used state.chunks p size))
+pub block_of : (state : State) (p size align : ℕ) → (0 < size → IsTrue (is_range_used state.chunks p size))
     → IsBlockOf state size align (block_in state p size align)
 block_of state p size align used = record {
   generation = refl;
@@ -136,21 +133,10 @@ resized_copied old mid new block b size align n is = record {
   bytes = bytes_copied (image mid) (image new) block.addr b.addr n is.bytes ∙ bytes_same (image mid) (image old) block.addr n (λ i below.
       is.placed.bytes (block.addr + i) (readable_part old.state block (block.addr + i) 1 is.source (omega arith) (omega (arith, is.within))
       (omega arith)) tt);
-  frame = record {
-    generation = ap (λ (s : State). s.generation) is.state ∙ is.placed.generation;
-    min_align = ap (λ (s : State). s.min_align) is.state ∙ is.placed.min_align;
-    is_growing = ap (λ (s : State). s.is_growing) is.state ∙ is.placed.is_growing;
-    allocated = λ still. ap allocated_bytes is.state ∙ is.placed.allocated still;
-    kept = λ addr k some used apart. subst (λ (s : State). IsTrue (is_range_used s.chunks addr k)) (sym is.state)
-        (is.placed.kept addr k some used tt);
-    apart = λ addr k some used apart. is.placed.apart addr k some used tt;
-    bytes = λ p used apart. is.bytes p
-        ∙ written_beside (image mid) b.addr p (bytes_from (image mid) block.addr n)
-        (beside_range p b.addr b.size b.addr (length (bytes_from (image mid) block.addr n)) (is.placed.apart p 1 (omega arith) used tt).0
-        (omega arith)
-        (omega (arith, length-bytes (image mid) block.addr n, is.shorter, is.of_layout.of_size)))
-        ∙ is.placed.bytes p used tt;
-  };
+  frame = frame_weaken old new [] (block ∷ []) (b ∷ []) (b ∷ []) (λ addr k some apart. tt) (λ addr k some apart rest. rest)
+      (frame_then old mid new [] (b ∷ []) (b ∷ []) is.placed (frame_written mid new b 0 (bytes_from (image mid) block.addr n) is.state
+      (let first : b.addr + 0 ≡ b.addr = omega arith in rw first is.bytes)
+      (omega (arith, length-bytes (image mid) block.addr n, is.shorter, is.of_layout.of_size))));
   valid = subst IsValid (sym is.state) is.valid;
 }
 
@@ -208,12 +194,6 @@ resized_not memory source block size align valid = record {
   valid = record { entry = valid; exit = valid };
   outcome = (refl, record { step = refl; asked = asked_none source; memory = refl });
 }
-
--- an allocation in place of a block was refused
-pub resized_none : (old new : View) (block : Block) (size align : ℕ) (e : ArenaErr) → OnCounted (Err e) (PlacesAfter old new size align)
-    → OnCounted (Err e) (ResizesAfter Anew old new block size align)
-resized_none old new block size align (AllocErr k) places = record { valid = places.valid; outcome = places.outcome }
-resized_none old new block size align OutOfMemory places = record { valid = places.valid; outcome = (refl, places.outcome) }
 
 -- an allocation that was counted, counted as a move
 replaced_move : (s : Statistics) → replaced (one_allocation s) ≡ one_move s

@@ -1,5 +1,5 @@
 -- What the fields of an arena represent.
-use Rattle.std.proofs.Common.{◌≡◌, ℕ, ◌+◌, ◌-◌, ◌<◌, ◌≤◌, ◌^◌, min, max, ap, sym, refl, subst, ◌∙◌, arith, List, [], ◌∷◌, false, Bool, length, eqb-true, map, inl, inr, ◌⊎◌, sum, sum_by, Option, Some, true, leb-true}
+use Rattle.std.proofs.Common.{◌≡◌, ℕ, ◌+◌, ◌-◌, ◌<◌, ◌≤◌, ◌^◌, min, max, ap, sym, refl, subst, ◌∙◌, arith, List, [], ◌∷◌, false, Bool, length, eqb-true, eq-eqb, map, inl, inr, ◌⊎◌, sum, sum_by, Option, Some, true, leb-true}
 use Rattle.std.specs.Prelude.{◌==◌, ◌||◌, nat_le}
 use Rattle.std.specs.List.{All, list_any}
 use Rattle.std.proofs.lemmas.Bool.{cases_Bool}
@@ -7,6 +7,7 @@ use Rattle.std.proofs.lemmas.Bool.Decides.{nat_tests}
 use Rattle.std.proofs.lemmas.List.Sums.{sum-map, sum_by-cons}
 use Rattle.std.proofs.lemmas.List.Elements.{All-nil, All-cons, All-head, All-tail}
 use Rattle.std.proofs.lemmas.Option.{cond_some}
+use Rattle.std.proofs.lemmas.Simd.{map-map}
 use Rattle.arena_rules.specs.Rounding.{down}
 use Rattle.arena_rules.specs.State.{State, Chunk, AreChunks, IsChunk, IsValid, start_of, cursor_of, top_of, floor_of, with_cursor, used_length, is_used_by, is_range_used}
 use Rattle.arena_rules.specs.Search.{place, place_below}
@@ -34,12 +35,6 @@ chunks_ordered m [] valid below ready = All-nil IsOrdered
 chunks_ordered m (newest ∷ older) valid below ready =
     All-cons IsOrdered newest older (record { low = All-head IsReady newest older ready; high = valid.0.cursor_high; fits = omega arith })
     (chunks_ordered m older valid.2 (omega (arith, valid.1, valid.0.cursor_low, valid.0.cursor_high)) (All-tail IsReady newest older ready))
-
-sum_mapped : (f : Chunk → ℕ) (chunks : List StoredChunk) → sum_by f (chunks_in chunks) ≡ sum_by (λ c. f (stored_chunk c)) chunks
-sum_mapped f [] = refl
-sum_mapped f (x ∷ xs) =
-    sum_by-cons f (stored_chunk x) (chunks_in xs) ∙ ap (λ (n : ℕ). f (stored_chunk x) + n) (sum_mapped f xs)
-    ∙ sym (sum_by-cons (λ (c : StoredChunk). f (stored_chunk c)) x xs)
 
 -- a sum of numbers that are at most the sizes fits in 64 bits
 sum_fits : (f : Chunk → ℕ) (memory : Memory) → IsValid memory.state → ((c : Chunk) → IsChunk memory.state.min_align c → f c ≤ c.size)
@@ -109,7 +104,8 @@ module _ (m : ℕ) (a : Inside m) where
       (elim (kind stands) [
         | inl none ↦ rw (none.0, none.2.older) (omega (arith, zero none.1))
         | inr some ↦
-            rw some (sym (sum-map f (chunks_in (a.newest ∷ a.older.items)) ∙ sum_mapped f (a.newest ∷ a.older.items)
+            rw some (sym (ap sum (map-map f stored_chunk (a.newest ∷ a.older.items))
+            ∙ sum-map (λ (c : StoredChunk). f (stored_chunk c)) (a.newest ∷ a.older.items)
             ∙ sum_by-cons (λ (c : StoredChunk). f (stored_chunk c)) a.newest a.older.items))
       ])
 
@@ -182,31 +178,6 @@ module _ (m : ℕ) (a : Inside m) where
   abbrev pub moved_chunk : ℕ → ℕ → StoredChunk
   moved_chunk q low = record { base = a.newest.base; cursor = q; bytes = bytes a.newest.bytes.items low }
 
-  pub cursor_moved : (memory : Memory) (q low generation allocations reallocations : ℕ) → Stands m a → view_of m a ≡ memory
-      → IsCursor memory.state q → generation ≤ 2 ^ 64 - 1 → a.newest.base + low ≤ q
-      → IsStored (memory_of m a.is_growing generation allocations reallocations (moved_chunk q low) a.older.items)
-      (moved_chunk q low) a.older.items
-  cursor_moved memory q low generation allocations reallocations stands view moved small ready =
-      let at = subst (λ (w : Memory). IsCursor w.state q) (sym view) moved in
-      elim (kind stands) [
-        | inl none ↦
-            let here = rw none.0 at at in
-            record {
-              valid = rw none.0 (at_generation _ generation small here.valid);
-              none = λ same. record { cursor = omega (arith, here.low, here.high); bytes = none.2.bytes; older = none.2.older };
-              ready = ready;
-              older_ready = stands.older_ready;
-            }
-        | inr some ↦
-            let here = rw some at at in
-            record {
-              valid = rw some (at_generation _ generation small here.valid);
-              none = λ same. absurd (differs a.newest.base some same);
-              ready = ready;
-              older_ready = stands.older_ready;
-            }
-      ]
-
   pub cursor_view : (memory : Memory) (q low : ℕ) → view_of m a ≡ memory
       → view_with m a (moved_chunk q low) a.older.items ≡ record {
         state = with_cursor q memory.state;
@@ -216,6 +187,24 @@ module _ (m : ℕ) (a : Inside m) where
   cursor_view memory q low view = subst (λ (w : Memory). view_with m a (moved_chunk q low) a.older.items
       ≡ record { state = with_cursor q w.state; statistics = w.statistics; bytes = w.bytes }) view
       (elim (cases_Bool (a.newest.base == 16)) [ inl none ↦ rw none refl | inr some ↦ rw some refl ])
+
+  pub cursor_moved : (memory : Memory) (q low generation allocations reallocations : ℕ) → Stands m a → view_of m a ≡ memory
+      → IsCursor memory.state q → generation ≤ 2 ^ 64 - 1 → a.newest.base + low ≤ q
+      → IsStored (memory_of m a.is_growing generation allocations reallocations (moved_chunk q low) a.older.items)
+      (moved_chunk q low) a.older.items
+  cursor_moved memory q low generation allocations reallocations stands view moved small ready =
+      let at = subst (λ (w : Memory). IsCursor w.state q) (sym view) moved in
+      record {
+        valid = at_generation (view_with m a (moved_chunk q low) a.older.items).state generation small
+            (subst (λ (w : Memory). IsValid w.state) (sym (cursor_view (view_of m a) q low refl)) at.valid);
+        none = λ same.
+            let is = stands.none same in
+            let empty : (a.newest.base == 16) ≡ true = eq-eqb _ _ same in
+            let here = rw empty at at in
+            record { cursor = omega (arith, here.low, here.high); bytes = is.bytes; older = is.older };
+        ready = ready;
+        older_ready = stands.older_ready;
+      }
 
   -- ---- A reset
 

@@ -24,18 +24,12 @@ overflow_add-block g c =
     c.if-size-eq0.false c.if-block-newest.false in
     omega (arith, range_fits _ _ _ _ _ is.0)
 
-pub part_at_mut-requires-clause-low : goal.part_at_mut-requires-clause-low
-part_at_mut-requires-clause-low g c =
+pub part_at_mut-requires : goal.part_at_mut-requires
+part_at_mut-requires g c =
     let is = newest_range g.row.MIN_ALIGN c.self.inside c.args.self.now c.args.block c.args.at c.args.size c.self.invariant c.self.view_is c.requires.readable c.requires.range
     c.if-size-eq0.false c.if-block-newest.false in
     let part = newest_part _ _ _ _ _ is.0 is.1 in
-    omega (arith, part.ready, part.used)
-
-pub part_at_mut-requires-clause-high : goal.part_at_mut-requires-clause-high
-part_at_mut-requires-clause-high g c =
-    let is = newest_range g.row.MIN_ALIGN c.self.inside c.args.self.now c.args.block c.args.at c.args.size c.self.invariant c.self.view_is c.requires.readable c.requires.range
-    c.if-size-eq0.false c.if-block-newest.false in
-    omega (arith, (newest_part _ _ _ _ _ is.0 is.1).high, is.1)
+    record { low = omega (arith, part.ready, part.used); high = omega (arith, part.high, is.1) }
 
 pub edit-requires-2 : goal.edit-requires-2
 edit-requires-2 g c =

@@ -28,18 +28,12 @@ overflow_add-addr g c = omega (
 
 -- ---- In the newest chunk
 
-pub part_at_mut-requires-then-block-self-clause-low : goal.part_at_mut-requires-then-block-self-clause-low
-part_at_mut-requires-then-block-self-clause-low g c =
+pub part_at_mut-requires-then-block-self : goal.part_at_mut-requires-then-block-self
+part_at_mut-requires-then-block-self g c =
     let is = newest_range g.row.MIN_ALIGN c.self.inside c.args.self.now c.args.block c.args.at c.args.size c.self.invariant c.self.view_is c.requires.readable c.requires.range
     c.if-size-eq0.false c.if-block-self.true in
     let part = newest_part _ _ _ _ _ is.0 is.1 in
-    omega (arith, part.ready, part.used)
-
-pub part_at_mut-requires-then-block-self-clause-high : goal.part_at_mut-requires-then-block-self-clause-high
-part_at_mut-requires-then-block-self-clause-high g c =
-    let is = newest_range g.row.MIN_ALIGN c.self.inside c.args.self.now c.args.block c.args.at c.args.size c.self.invariant c.self.view_is c.requires.readable c.requires.range
-    c.if-size-eq0.false c.if-block-self.true in
-    omega (arith, (newest_part _ _ _ _ _ is.0 is.1).high, is.1)
+    record { low = omega (arith, part.ready, part.used); high = omega (arith, part.high, is.1) }
 
 pub invariant_of-self-lent-then-block-self : goal.invariant_of-self-lent-then-block-self
 invariant_of-self-lent-then-block-self g c w =

@@ -4,11 +4,9 @@ use Rattle.arena_core.proofs.arena.Arena.walk.Goals as goal
 pub of-requires-clause-ordered : goal.of-requires-clause-ordered
 of-requires-clause-ordered g c = stored_ordered g.row.MIN_ALIGN c.self.inside c.self.invariant
 
-pub returns-clause-parts : goal.returns-clause-parts
-returns-clause-parts g c = parts_stored g.row.MIN_ALIGN c.self.inside c.args.self.now _ c.self.invariant c.self.view_is c.of.ensures
-
-pub returns-clause-ranges : goal.returns-clause-ranges
-returns-clause-ranges g c = ranges_stored g.row.MIN_ALIGN c.self.inside c.args.self.now _ c.self.view_is c.of.ensures
-
-pub returns-clause-chunks : goal.returns-clause-chunks
-returns-clause-chunks g c = chunks_stored g.row.MIN_ALIGN c.self.inside c.args.self.now _ c.self.view_is c.of.ensures
+pub returns : goal.returns
+returns g c = record {
+  parts = parts_stored g.row.MIN_ALIGN c.self.inside c.args.self.now _ c.self.invariant c.self.view_is c.of.ensures;
+  ranges = ranges_stored g.row.MIN_ALIGN c.self.inside c.args.self.now _ c.self.view_is c.of.ensures;
+  chunks = chunks_stored g.row.MIN_ALIGN c.self.inside c.args.self.now _ c.self.view_is c.of.ensures;
+}
