@@ -1,10 +1,10 @@
 -- The table of the chunks but the newest, by its parts.
-use Rattle.std.proofs.Common.{◌≡◌, ℕ, zero, suc, ◌+◌, ◌-◌, ◌<◌, ◌≤◌, ap, sym, refl, subst, ◌∙◌, arith, List, [], ◌∷◌, ◌++◌, true, false, Bool, length, get_or, take, drop, length-take, min}
+use Rattle.std.proofs.Common.{◌≡◌, ℕ, zero, suc, ◌+◌, ◌-◌, ◌<◌, ◌≤◌, ap, sym, refl, subst, ◌∙◌, arith, List, [], ◌∷◌, ◌++◌, true, false, Bool, length, get_or, take, take_all, drop, length-take, min}
 use Rattle.std.specs.Prelude.{slice_index}
 use Rattle.std.specs.List.{All, list_any, sum_by}
 use Rattle.std.proofs.lemmas.Bool.{or_right}
 use Rattle.std.proofs.lemmas.List.Elements.{All-head, All-tail, All-push, All-take, All-drop}
-use Rattle.std.proofs.lemmas.List.Sums.{sum_by-cons}
+use Rattle.std.proofs.lemmas.List.Sums.{sum_by-cons, sum_by_more_le}
 use Rattle.std.proofs.lemmas.List.{length-append, get_or_default}
 use Rattle.arena_rules.specs.State.{used_length}
 use Rattle.arena_region.specs.Bytes.{bytes}
@@ -161,19 +161,23 @@ sum_onto f g each older (b ∷ bases) (k ∷ kept) table = omega (
   sum_by-cons g k kept,
 )
 
-pub sum_used : (bases : List ℕ) (kept : List Kept) → IsTable bases kept
-    → sum_by (λ c. used_length (stored_chunk c)) (chunks_onto [] bases kept) ≡ sum_by (λ (k : Kept). k.used) kept
-sum_used bases kept table = omega (
-  arith,
-  sum_onto (λ (c : StoredChunk). used_length (stored_chunk c)) (λ (k : Kept). k.used) (λ b k fine. omega (arith, fine)) [] bases kept table,
-)
+-- a sum over the chunks, read from the table: with the next one, and after the last
+module _ (f : StoredChunk → ℕ) (g : Kept → ℕ) (each : (b : ℕ) (k : Kept) → IsKept k → f (chunk_of b k) ≡ g k) (bases : List ℕ)
+    (kept : List Kept) (spare : ℕ) (t : Chunks) (table : IsTable bases kept)
+    (view : record { items = chunks_onto [] bases kept; spare = spare } ≡ t) (items : List Kept) (same : items ≡ kept) (i : ℕ) where
+  pub sum_next : (k : Kept) → i < length items → k ≡ get_or items i k → sum_by g (take i items) + g k ≤ sum_by f t.items
+  sum_next k below at = omega (
+    arith,
+    sum_onto f g each [] bases kept table,
+    ap (λ (t : Chunks). sum_by f t.items) view,
+    sum_by_more_le g items i k below,
+    ap (sum_by g) same,
+    ap g at,
+  )
 
-pub sum_sizes : (bases : List ℕ) (kept : List Kept) → IsTable bases kept
-    → sum_by (λ (c : StoredChunk). length c.bytes.items) (chunks_onto [] bases kept) ≡ sum_by (λ (k : Kept). length k.bytes.items) kept
-sum_sizes bases kept table = omega (
-  arith,
-  sum_onto (λ (c : StoredChunk). length c.bytes.items) (λ (k : Kept). length k.bytes.items) (λ b k fine. refl) [] bases kept table,
-)
+  pub sum_whole : length items ≤ i → sum_by g (take i items) ≡ sum_by f t.items
+  sum_whole over = ap (sum_by g) (take_all i items over ∙ same) ∙ omega (arith, sum_onto f g each [] bases kept table)
+      ∙ ap (λ (t : Chunks). sum_by f t.items) view
 
 -- ---- Which of them has a block
 
