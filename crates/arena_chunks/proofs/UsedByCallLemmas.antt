@@ -54,47 +54,39 @@ placed_exact old new size align b layout small by below places = go (place old.m
 
 -- ---- A block that is resized
 
--- A block that moves down as it grows brings as many bytes into use as it moves.
-moved_used : (old new : View) (block b : Block) (size align q : ℕ) → GrowsBlock old new block size align (Placed b)
-    → growing_of old.memory block size align ≡ Moves q
-    → used_bytes new.memory.state ≡ used_bytes old.memory.state + (block.addr - q)
-unfolding grow
-moved_used old new block b size align q grows is =
-    grow_used old.memory.state block.addr block.size block.align size align grows.0 q
-    (record { answer = Some b.addr; state = new.memory.state }) grows.1.valid.entry is grows.1.outcome.step
+module _ (old new : View) (block b : Block) (size align q : ℕ) (grows : GrowsBlock old new block size align (Placed b))
+    (is : growing_of old.memory block size align ≡ Moves q) where
+  -- A block that moves down as it grows brings as many bytes into use as it moves.
+  moved_used : used_bytes new.memory.state ≡ used_bytes old.memory.state + (block.addr - q)
+  unfolding grow
+  moved_used =
+      grow_used old.memory.state block.addr block.size block.align size align grows.0 q
+      (record { answer = Some b.addr; state = new.memory.state }) grows.1.valid.entry is grows.1.outcome.step
 
--- It brings at least what it grows by.
-pub grown_least : (old new : View) (block b : Block) (size align q : ℕ) → GrowsBlock old new block size align (Placed b)
-    → growing_of old.memory block size align ≡ Moves q
-    → used_bytes old.memory.state + (size - block.size) ≤ used_bytes new.memory.state
-grown_least old new block b size align q grows is =
-    omega (
-      arith,
-      moved_used old new block b size align q grows is,
-      growth_least old.memory.state block.addr block.size block.align size align q grows.1.valid.entry is,
-    )
+  -- It brings at least what it grows by.
+  pub grown_least : used_bytes old.memory.state + (size - block.size) ≤ used_bytes new.memory.state
+  grown_least = omega (
+    arith,
+    moved_used,
+    growth_least old.memory.state block.addr block.size block.align size align q grows.1.valid.entry is,
+  )
 
--- It brings less than the least alignment and less than a unit more.
-pub grown_most : (old new : View) (block b : Block) (size align q : ℕ) → GrowsBlock old new block size align (Placed b)
-    → growing_of old.memory block size align ≡ Moves q
-    → used_bytes new.memory.state ≤ used_bytes old.memory.state + (size - block.size) + (old.memory.state.min_align - 1)
-    + (unit_of old.memory.state block.align - 1)
-grown_most old new block b size align q grows is =
-    omega (
-      arith,
-      moved_used old new block b size align q grows is,
-      growth_most old.memory.state block.addr block.size block.align size align q grows.1.valid.entry is,
-    )
+  -- It brings less than the least alignment and less than a unit more.
+  pub grown_most : used_bytes new.memory.state
+      ≤ used_bytes old.memory.state + (size - block.size) + (old.memory.state.min_align - 1)
+      + (unit_of old.memory.state block.align - 1)
+  grown_most = omega (
+    arith,
+    moved_used,
+    growth_most old.memory.state block.addr block.size block.align size align q grows.1.valid.entry is,
+  )
 
--- By whole units, to a multiple of the least alignment, it brings exactly what it grows by.
-pub grown_exact : (old new : View) (block b : Block) (size align q : ℕ) → GrowsBlock old new block size align (Placed b)
-    → growing_of old.memory block size align ≡ Moves q
-    → block.addr % block.align ≡ 0 → size % old.memory.state.min_align ≡ 0 → (size - block.size) % unit_of old.memory.state block.align ≡ 0
-    → used_bytes new.memory.state ≡ used_bytes old.memory.state + (size - block.size)
-grown_exact old new block b size align q grows is aligned whole by =
-    moved_used old new block b size align q grows is
-    ∙ ap (λ (n : ℕ). used_bytes old.memory.state + n)
-    (growth_exact old.memory.state block.addr block.size block.align size align q grows.1.valid.entry is aligned whole by)
+  -- By whole units, to a multiple of the least alignment, it brings exactly what it grows by.
+  pub grown_exact : block.addr % block.align ≡ 0 → size % old.memory.state.min_align ≡ 0
+      → (size - block.size) % unit_of old.memory.state block.align ≡ 0
+      → used_bytes new.memory.state ≡ used_bytes old.memory.state + (size - block.size)
+  grown_exact aligned whole by = moved_used ∙ ap (λ (n : ℕ). used_bytes old.memory.state + n)
+      (growth_exact old.memory.state block.addr block.size block.align size align q grows.1.valid.entry is aligned whole by)
 
 -- A block that moves up as it shrinks frees as many bytes as it moves.
 pub shrunk_used : (old new : View) (block b : Block) (size align q : ℕ) → IsTrue (is_readable old.memory.state block)

@@ -1,6 +1,6 @@
 -- Going back to a mark: which names and marks remain, and what is true of them.
 use Rattle.std.proofs.Common.{◌≡◌, ℕ, ◌+◌, ◌-◌, ◌<◌, ◌≤◌, inl, inr, ap, refl, sym, subst, ◌∙◌, arith, List, [], ◌∷◌, Bool, cond, true, false, IsTrue, Option, Some, None, length, take, get_or, eq-eqb, leb-true}
-use Rattle.std.specs.Prelude.{◌==◌, ◌&&◌, nat_lt, if◌then◌else◌}
+use Rattle.std.specs.Prelude.{◌==◌, nat_lt, if◌then◌else◌}
 use Rattle.std.specs.Option.{option_map_or}
 use Rattle.std.specs.List.{AllByRecursion}
 use Rattle.std.specs.FinMap as finite
@@ -94,12 +94,11 @@ module _ (old : Memory) (names held : Held) (noted : Noted) (name : ℕ) (m : Ma
   stays_last : 0 < count → Lies true old.state names m (get_or noted.log (count - 1) 0)
   stays_last some = by (finite.get held (get_or noted.log (count - 1) 0)) refl
     where
-      by : (o : Option Place) → finite.get held (get_or noted.log (count - 1) 0) ≡ o → Lies true old.state names m (get_or noted.log (count - 1) 0)
-      by None at = not_both (stands now held (get_or noted.log (count - 1) 0)) (over some)
-          (ap (λ (o : Option Place). option_map_or (λ (x : Place). nat_lt 0 x.size && is_place_used now x) o false) at)
+      by : (o : Option Place) → finite.get held (get_or noted.log (count - 1) 0) ≡ o
+          → Lies true old.state names m (get_or noted.log (count - 1) 0)
+      by None at = absurd (let stood : IsTrue false = rw at at (over some) in cc)
       by (Some p) at =
-          let both = and_parts (nat_lt 0 p.size) (is_place_used now p)
-          (sym (ap (λ (o : Option Place). option_map_or (λ (x : Place). nat_lt 0 x.size && is_place_used now x) o false) at) ∙ over some) in
+          let both = and_parts (nat_lt 0 p.size) (is_place_used now p) (rw at at (over some)) in
           let filled : 0 < p.size = leb-true _ _ both.0 in (
             p,
             lets.less (get_or noted.log (count - 1) 0) p at,
@@ -115,7 +114,8 @@ module _ (old : Memory) (names held : Held) (noted : Noted) (name : ℕ) (m : Ma
       | inr outside ↦ (p, at, some, outside)
       | inl inside ↦ not_both (is_place_used now p)
           (or_right (p.size == 0) (is_range_used now.chunks p.addr p.size)
-          (part_left (mark_at m.checkpoint) old.state p.addr p.size holds.valid some (used_filled old.state p some (holds.each q p at).used) inside))
+          (part_left (mark_at m.checkpoint) old.state p.addr p.size holds.valid some
+          (used_filled old.state p some (holds.each q p at).used) inside))
           unused
     ]
   ]
@@ -169,7 +169,8 @@ module _ (old : Memory) (names held : Held) (noted : Noted) (name : ℕ) (m : Ma
       ]
 
   -- the mark, and each older one, is tracked by what remains of the log
-  mark_back : (o : Mark) → o.checkpoint.chunks ≤ m.checkpoint.chunks → TracksMark old.state names noted.log o → TracksMark now held (take count noted.log) o
+  mark_back : (o : Mark) → o.checkpoint.chunks ≤ m.checkpoint.chunks → TracksMark old.state names noted.log o
+      → TracksMark now held (take count noted.log) o
   mark_back o under was = record {
     generation = was.generation;
     accepted = kept.accepted;

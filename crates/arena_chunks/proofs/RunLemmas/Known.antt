@@ -42,7 +42,8 @@ pub newest_first : (items : List Mark) (count : ℕ) (m : Mark) → 0 < count �
 newest_first items count m some within is =
     let back : count - 1 + 1 ≡ count = omega arith in
     ap (λ (n : ℕ). reverse (take n items)) (sym back) ∙ ap reverse (take_more items (count - 1) m (omega arith))
-    ∙ reverse-append (take (count - 1) items) (get_or items (count - 1) m ∷ []) ∙ ap (λ (x : Mark). x ∷ reverse (take (count - 1) items)) (sym is)
+    ∙ reverse-append (take (count - 1) items) (get_or items (count - 1) m ∷ [])
+    ∙ ap (λ (x : Mark). x ∷ reverse (take (count - 1) items)) (sym is)
 
 -- ---- Marks that end
 

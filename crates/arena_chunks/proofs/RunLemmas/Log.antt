@@ -60,7 +60,8 @@ notes_settled state names held old mid new name stayed same noted still settled 
     by some true is =
         let log : new.log ≡ take (length mid.log - 1) mid.log = settled (omega (arith, ap length same))
         ∙ ap (λ (b : Bool). if b then take (length mid.log - 1) mid.log else mid.log) is in
-        inl (log ∙ ap (λ (l : List ℕ). take (length l - 1) l) (noted some) ∙ take_at old.log (name ∷ []) _ (omega (arith, length-append old.log (name ∷ []))), within is)
+        let back = take_at old.log (name ∷ []) _ (omega (arith, length-append old.log (name ∷ []))) in
+        inl (log ∙ ap (λ (l : List ℕ). take (length l - 1) l) (noted some) ∙ back, within is)
     by some false is =
         let log : new.log ≡ mid.log = settled (omega (arith, ap length same))
         ∙ ap (λ (b : Bool). if b then take (length mid.log - 1) mid.log else mid.log) is in

@@ -35,7 +35,7 @@ use Rattle.arena_store.specs.declared.block.Block.{Block}
 use Rattle.arena_chunks.specs.declared.runs.marks.Mark.{Mark}
 use Rattle.arena_chunks.proofs.RunLemmas.Log.{notes_still, inserted_at_cursor, inserted_within, noting, not_both}
 use Rattle.arena_core.proofs.WrittenLemmas.{bytes_filled, take_bytes}
-use Rattle.arena_chunks.proofs.RunLemmas.Serving.{serves_placed, asks_still, serves_still, found_at}
+use Rattle.arena_chunks.proofs.RunLemmas.Serving.{serves_placed, asks_none, serves_still, found_at}
 use Rattle.arena_chunks.proofs.RunLemmas.Change.{IsChange, beside_apart, change_written, change_placed}
 
 -- a block in place of the name's
@@ -167,7 +167,7 @@ pub resizing_still : (fill : Option ℕ) (reply : Reply) (memory : Memory) (name
 resizing_still fill reply memory names noted name size align source holds none placed steps anew = (
   serves_still (resizing fill name size align) reply memory names source source holds
       (λ marks bytes held. rw none (resizing_step fill name size align 0 (machine_of memory names marks bytes) ∙ steps marks bytes held))
-      (asks_still (resizing fill name size align) reply memory names source none
+      (asks_none (resizing fill name size align) reply memory memory names source none refl
       (λ marks bytes. resizing_anew fill name size align (machine_of memory names marks bytes) ∙ anew)
       (λ marks bytes. resizing_counts fill name size align reply (machine_of memory names marks bytes) memory.statistics placed)),
   notes_still memory.state names names noted (λ q p at. at),

@@ -57,12 +57,6 @@ asks_none call reply old new names source none same anew counts = record {
 }
 
 -- a call that changes nothing
-pub asks_still : (call : Call) (reply : Reply) (memory : Memory) (names : Held) (source : Source) → refused_of reply ≡ 0
-    → ((marks : Marks) (bytes : Contents) → placed_anew call (machine_of memory names marks bytes) ≡ None)
-    → ((marks : Marks) (bytes : Contents) → call_statistics call reply (machine_of memory names marks bytes) memory.statistics
-    ≡ memory.statistics) → Asks call reply (view memory source) (view memory source) names
-asks_still call reply memory names source none = asks_none call reply memory memory names source none refl
-
 pub serves_still : (call : Call) (reply : Reply) (memory : Memory) (names : Held) (before later : Source) → Holds memory.state names
     → ((marks : Marks) (bytes : Contents) → HoldsBytes memory names bytes
     → step call (refused_of reply) (machine_of memory names marks bytes) ≡ Some (reply, machine_of memory names marks bytes))
@@ -216,7 +210,8 @@ serves_alloc old mid new names name size align fill k block before later holds n
     let moved = moved_anew old.state nothing size align k (record { answer = Some p; state = mid.state }) holds.valid
     (layout_power size align (sym good)) placed.step in
     let change = change_placed old mid names name size align p nothing [] (block ∷ []) holds
-    (λ filled. absurd (omega (arith, padded_empty old.state.min_align nothing positive (omega arith) refl))) good moved places.valid.exit placed.frame
+    (λ filled. absurd (omega (arith, padded_empty old.state.min_align nothing positive (omega arith) refl)))
+    good moved places.valid.exit placed.frame
     (λ addr n beside. tt)
     (λ mark accepted. alloc_keeps mark old.state size align k (record { answer = Some p; state = mid.state }) accepted placed.step) in
     let served = serves_placed (Alloc name size align fill) k old new names name nothing b before later holds

@@ -7,7 +7,7 @@ use Rattle.call_rules.specs.declared.calls.Reply.TheVariants.{AllocErr}
 use Rattle.arena_core.proofs.AnswerLemmas.{on_err}
 use Rattle.call_rules.proofs.HeldLemmas.{get-inserted, insert_again, remove_inserted}
 use Rattle.arena_chunks.proofs.RunLemmas.Log.{notes_still, notes_refused}
-use Rattle.arena_chunks.proofs.RunLemmas.Serving.{none_of, asks_still, serves_still, serves_alloc}
+use Rattle.arena_chunks.proofs.RunLemmas.Serving.{none_of, asks_none, serves_still, serves_alloc}
 use Rattle.arena_chunks.proofs.runs.serve.serve_alloc.Goals as goal
 
 pub returns-then-is_some-clause-serves : goal.returns-then-is_some-clause-serves
@@ -15,7 +15,7 @@ unfolding step placed_anew
 returns-then-is_some-clause-serves g c =
     let taken = c.if-is_some.ensures ∙ ap is_some c.get.ensures in (
       serves_still _ _ _ _ _ _ c.requires (λ marks bytes held. rw (← taken) refl)
-          (asks_still _ _ _ _ _ refl (λ marks bytes. rw (← taken) refl) (λ marks bytes. refl)),
+          (asks_none _ _ _ _ _ _ refl refl (λ marks bytes. rw (← taken) refl) (λ marks bytes. refl)),
       notes_still _ _ _ _ (λ q p at. at),
     )
 
@@ -25,7 +25,7 @@ returns-in_default-clause-serves g c =
     let free = c.if-is_some.ensures ∙ ap is_some c.get.ensures in
     let bad = c.in_default.ensures.valid in (
       serves_still _ _ _ _ _ _ c.requires (λ marks bytes held. rw (← free, ← bad) refl)
-          (asks_still _ _ _ _ _ refl (λ marks bytes. rw (← free, ← bad) refl) (λ marks bytes. refl)),
+          (asks_none _ _ _ _ _ _ refl refl (λ marks bytes. rw (← free, ← bad) refl) (λ marks bytes. refl)),
       notes_still _ _ _ _ (λ q p at. at),
     )
 

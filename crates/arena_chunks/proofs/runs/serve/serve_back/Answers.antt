@@ -4,7 +4,7 @@ use Rattle.call_rules.specs.Requests.{placed_anew}
 use Rattle.call_rules.specs.declared.calls.Call.TheVariants.{Back}
 use Rattle.call_rules.specs.declared.calls.Reply.TheVariants.{NoSuchName}
 use Rattle.arena_chunks.specs.Runs.Marks.{named}
-use Rattle.arena_chunks.proofs.RunLemmas.Serving.{none_of, asks_still}
+use Rattle.arena_chunks.proofs.RunLemmas.Serving.{none_of, asks_none}
 use Rattle.arena_chunks.proofs.RunLemmas.Marking.{marks_still}
 use Rattle.arena_chunks.proofs.RunLemmas.GoingBack.{serves_back, back_accepted}
 use Rattle.arena_chunks.proofs.runs.serve.serve_back.Goals as goal
@@ -14,7 +14,7 @@ unfolding step placed_anew
 returns-then-not-has-clause-serves g c = λ source.
     marks_still (Back c.args.name) NoSuchName _ _ _ source c.requires.holds c.requires.tracks refl
     (λ bytes. rw (none_of (mark_named (named c.args.run.now.marks.marks) c.args.name) (sym c.if-not-has.true ∙ c.has.ensures)) refl)
-    (asks_still _ _ _ _ _ refl (λ marks bytes. refl) (λ marks bytes. refl))
+    (asks_none _ _ _ _ _ _ refl refl (λ marks bytes. refl) (λ marks bytes. refl))
 
 pub back_to-mark-requires : goal.back_to-mark-requires
 back_to-mark-requires g c = sym c.has.ensures ∙ c.if-not-has.false

@@ -2,7 +2,7 @@ use Rattle.std.proofs.Common.{arith, sym, ◌∙◌, refl}
 use Rattle.call_rules.specs.Machine.{step}
 use Rattle.call_rules.specs.Requests.{placed_anew}
 use Rattle.call_rules.proofs.HeldLemmas.{remove_absent}
-use Rattle.arena_chunks.proofs.RunLemmas.Serving.{readable_at, asks_still, serves_still, absent_at, serves_dealloc}
+use Rattle.arena_chunks.proofs.RunLemmas.Serving.{readable_at, asks_none, serves_still, absent_at, serves_dealloc}
 use Rattle.arena_chunks.proofs.runs.serve.serve_dealloc.Goals as goal
 
 pub returns-in_default-clause-serves : goal.returns-in_default-clause-serves
@@ -11,7 +11,7 @@ returns-in_default-clause-serves g c = λ source.
     let none = sym c.remove.ensures.place ∙ c.in_default.is in
     rw (c.remove.ensures.rest, remove_absent c.args.names.now c.args.name none)
     (serves_still _ _ _ _ _ _ c.requires (λ marks bytes held. absent_at c.args.arena.now c.args.names.now marks bytes c.args.name _ none)
-    (asks_still _ _ _ _ _ refl (λ marks bytes. refl) (λ marks bytes. refl)))
+    (asks_none _ _ _ _ _ _ refl refl (λ marks bytes. refl) (λ marks bytes. refl)))
 
 pub dealloc-requires : goal.dealloc-requires
 dealloc-requires g c = (

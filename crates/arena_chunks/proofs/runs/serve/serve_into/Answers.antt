@@ -11,7 +11,7 @@ use Rattle.arena_core.proofs.AnswerLemmas.{on_err_less, on_ok_less}
 use Rattle.call_rules.proofs.HeldLemmas.{less_removed}
 use Rattle.arena_chunks.proofs.RunLemmas.Log.{notes_still}
 use Rattle.arena_chunks.proofs.RunLemmas.Marking.{marks_still, run_served}
-use Rattle.arena_chunks.proofs.RunLemmas.Serving.{asks_still}
+use Rattle.arena_chunks.proofs.RunLemmas.Serving.{asks_none}
 use Rattle.arena_chunks.proofs.runs.serve.serve_into.Goals as goal
 use Rattle.arena_chunks.proofs.runs.serve.serve_into.Goals.{in-Alloc+in_ok-reply-in-Alloc, in-Grow+in_ok-reply-in-Grow, in-Shrink+in_ok-reply-in-Shrink, in-Dealloc, in-Write, in-Mark+in_ok-reply-in-Mark, in-Back, in-Reset, in-Used, in-Allocated}
 
@@ -71,8 +71,8 @@ returns-clause-serves g c = (c.match-call.reply, served, c.take.ensures.taken)
       | in-Reset w ↦ rw (w.in-Reset.is, w.arena-is, w.chunks-is, w.run-is, w.reply-is) (w.serve_reset-reply.ensures.serves _)
       | in-Used w ↦ rw (w.in-Used.is, w.arena-is, w.chunks-is, w.run-is, w.reply-is, w.used_bytes.ensures.value)
           (marks_still _ _ _ _ _ _ c.requires.holds c.requires.tracks refl (λ bytes. refl)
-          (asks_still _ _ _ _ _ refl (λ marks bytes. refl) (λ marks bytes. refl)))
+          (asks_none _ _ _ _ _ _ refl refl (λ marks bytes. refl) (λ marks bytes. refl)))
       | in-Allocated w ↦ rw (w.in-Allocated.is, w.arena-is, w.chunks-is, w.run-is, w.reply-is, w.allocated_bytes.ensures.value)
           (marks_still _ _ _ _ _ _ c.requires.holds c.requires.tracks refl (λ bytes. refl)
-          (asks_still _ _ _ _ _ refl (λ marks bytes. refl) (λ marks bytes. refl)))
+          (asks_none _ _ _ _ _ _ refl refl (λ marks bytes. refl) (λ marks bytes. refl)))
     ]

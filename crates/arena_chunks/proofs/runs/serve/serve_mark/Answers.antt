@@ -4,7 +4,7 @@ use Rattle.call_rules.specs.Requests.{placed_anew}
 use Rattle.call_rules.specs.declared.calls.Call.TheVariants.{Mark}
 use Rattle.call_rules.specs.declared.calls.Reply.TheVariants.{NameTaken}
 use Rattle.arena_core.proofs.AnswerLemmas.{on_err}
-use Rattle.arena_chunks.proofs.RunLemmas.Serving.{none_of, asks_still}
+use Rattle.arena_chunks.proofs.RunLemmas.Serving.{none_of, asks_none}
 use Rattle.arena_chunks.proofs.RunLemmas.Marking.{marks_still, serves_mark}
 use Rattle.arena_chunks.proofs.runs.serve.serve_mark.Goals as goal
 
@@ -12,7 +12,7 @@ pub returns-then-has-clause-serves : goal.returns-then-has-clause-serves
 unfolding step placed_anew
 returns-then-has-clause-serves g c = λ source.
     marks_still (Mark c.args.name) NameTaken _ _ _ source c.requires.holds c.requires.tracks refl (λ bytes. rw (← c.if-has.ensures) refl)
-    (asks_still _ _ _ _ _ refl (λ marks bytes. refl) (λ marks bytes. refl))
+    (asks_none _ _ _ _ _ _ refl refl (λ marks bytes. refl) (λ marks bytes. refl))
 
 pub set-requires : goal.set-requires
 set-requires g c = sym c.if-has.ensures

@@ -6,7 +6,7 @@ use Rattle.call_rules.specs.declared.calls.Call.TheVariants.{Read}
 use Rattle.arena_store.specs.Source.{view}
 use Rattle.arena_chunks.specs.Runs.Serving.{Serves}
 use Rattle.arena_core.proofs.AnswerLemmas.{on_ok_less}
-use Rattle.arena_chunks.proofs.RunLemmas.Serving.{readable_at, asks_still, serves_still, absent_at, found_at}
+use Rattle.arena_chunks.proofs.RunLemmas.Serving.{readable_at, asks_none, serves_still, absent_at, found_at}
 use Rattle.arena_chunks.proofs.runs.serve.serve_read.Goals as goal
 
 pub returns-in_default-clause-serves : goal.returns-in_default-clause-serves
@@ -15,7 +15,7 @@ returns-in_default-clause-serves g c = λ source. (
   NoSuchName,
   serves_still _ _ _ _ _ _ c.requires.holds
       (λ marks bytes held. absent_at c.args.arena.now c.args.names.now marks bytes c.args.name _ (sym c.get.ensures ∙ c.in_default.is))
-      (asks_still _ _ _ _ _ refl (λ marks bytes. refl) (λ marks bytes. refl)),
+      (asks_none _ _ _ _ _ _ refl refl (λ marks bytes. refl) (λ marks bytes. refl)),
   c.take.ensures.taken,
 )
 
@@ -33,5 +33,5 @@ returns-clause-serves g c = λ source.
     (view c.args.arena.now source) c.args.names.now c.args.names.now =
     serves_still _ _ _ _ _ _ c.requires.holds (λ marks bytes held.
     found_at c.args.arena.now c.args.names.now marks bytes c.args.name 0 c.in-Some.place _ held (sym c.get.ensures ∙ c.in-Some.is)
-    ∙ rw (c.read.ensures, c.block_at.ensures) refl) (asks_still _ _ _ _ _ refl (λ marks bytes. refl) (λ marks bytes. refl)) in
+    ∙ rw (c.read.ensures, c.block_at.ensures) refl) (asks_none _ _ _ _ _ _ refl refl (λ marks bytes. refl) (λ marks bytes. refl)) in
     on_ok_less c.take_bytes.result (λ taken. (Bytes c.read.result.now, serves, taken)) c.take_bytes.ensures.taken

@@ -14,16 +14,14 @@ use Rattle.arena_chunks.proofs.runs.serve.serve_resize.Goals.{then-is_none, else
 pub returns-in_default-clause-serves : goal.returns-in_default-clause-serves
 returns-in_default-clause-serves g c =
     let none = sym c.get.ensures ∙ c.in_default.is in
-    resizing_still c.args.fill NoSuchName c.args.arena.now c.args.run.now.names _ c.args.wanted.name c.args.wanted.size c.args.wanted.align
-    _ c.requires refl refl
+    resizing_still c.args.fill NoSuchName c.args.arena.now c.args.run.now.names _ _ _ _ _ c.requires refl refl
     (λ marks bytes held. absent_at c.args.arena.now c.args.run.now.names marks bytes c.args.wanted.name _ none) (rw none refl)
 
 pub returns-in_default-new-clause-serves : goal.returns-in_default-new-clause-serves
 returns-in_default-new-clause-serves g c =
     let found = sym c.get.ensures ∙ c.in-Some.is in
     let bad = c.in_default-new.ensures.valid in
-    resizing_still c.args.fill BadLayout c.args.arena.now c.args.run.now.names _ c.args.wanted.name c.args.wanted.size c.args.wanted.align
-    _ c.requires refl refl
+    resizing_still c.args.fill BadLayout c.args.arena.now c.args.run.now.names _ _ _ _ _ c.requires refl refl
     (λ marks bytes held. found_at c.args.arena.now c.args.run.now.names marks bytes c.args.wanted.name 0 c.in-Some.place _ held found
     ∙ rw (← bad) refl) (rw (found, ← bad) refl)
 
@@ -32,8 +30,7 @@ returns-then-is_wrong-clause-serves g c =
     let found = sym c.get.ensures ∙ c.in-Some.is in
     let good = c.in-Some-new.ensures.valid in
     let wrong = sym c.is_wrong.ensures ∙ c.if-is_wrong.true in
-    resizing_still c.args.fill OutOfRange c.args.arena.now c.args.run.now.names _ c.args.wanted.name c.args.wanted.size c.args.wanted.align
-    _ c.requires refl refl
+    resizing_still c.args.fill OutOfRange c.args.arena.now c.args.run.now.names _ _ _ _ _ c.requires refl refl
     (λ marks bytes held. found_at c.args.arena.now c.args.run.now.names marks bytes c.args.wanted.name 0 c.in-Some.place _ held found
     ∙ rw (← good, wrong) refl) (rw (found, ← good, wrong) refl)
 
@@ -56,8 +53,7 @@ returns-after-is_none-clause-serves g c =
       | then-is_none w ↦ rw (w.settle-is, w.if-is_none.ensures) refl
       | else-is_none w ↦ rw (w.settle-is, w.if-is_none.false, w.if-is_none.ensures) refl
     ] in
-    let served = serves_resized c.args.fill c.args.arena.now c.resize.new.arena c.args.run.now.names c.args.wanted.name c.args.wanted.size
-    c.args.wanted.align
+    let served = serves_resized c.args.fill c.args.arena.now c.resize.new.arena c.args.run.now.names c.args.wanted.name _ _
     c.in-Ok.refused c.in-Some.place c.in-Ok.block _ _ c.requires found c.in-Some-new.ensures.valid right
     (rw (value.0, value.1) at c.in-Ok.ensures) in
     rw (c.replace.ensures, c.at.ensures) (
@@ -72,8 +68,7 @@ returns-in-Err-AllocErr-clause-serves g c =
     let found = sym c.get.ensures ∙ c.in-Some.is in
     let value = c.in-Some-new.ensures.value in
     let right = sym c.is_wrong.ensures ∙ c.if-is_wrong.false in
-    let served = serves_unresized c.args.fill c.args.arena.now c.resize.new.arena c.args.run.now.names c.args.wanted.name c.args.wanted.size
-    c.args.wanted.align
+    let served = serves_unresized c.args.fill c.args.arena.now c.resize.new.arena c.args.run.now.names c.args.wanted.name _ _
     _ c.in-Err-AllocErr.refused c.in-Some.place _ _ c.requires found c.in-Some-new.ensures.valid right
     (rw (value.0, value.1) at (rw c.in-Err-AllocErr.field-0-is at c.in-Err-AllocErr.ensures)) in
     rw c.in-Err-AllocErr.field-0-is (

@@ -1,7 +1,7 @@
 use Rattle.std.proofs.Common.{◌+◌, ◌<◌, arith, sym, ◌∙◌, length, lt-ltb, refl}
 use Rattle.call_rules.specs.Machine.{step}
 use Rattle.call_rules.specs.Requests.{placed_anew}
-use Rattle.arena_chunks.proofs.RunLemmas.Serving.{readable_at, asks_still, serves_still, absent_at, found_at, serves_write}
+use Rattle.arena_chunks.proofs.RunLemmas.Serving.{readable_at, asks_none, serves_still, absent_at, found_at, serves_write}
 use Rattle.arena_chunks.proofs.runs.serve.serve_write.Goals as goal
 use Rattle.arena_chunks.proofs.runs.serve.serve_write.Goals.{then-len-place-via-then-len-place, then-len-place-via-else-len-place+then-at-place}
 
@@ -10,7 +10,7 @@ unfolding step placed_anew
 returns-in_default-clause-serves g c = λ source.
     serves_still _ _ _ _ _ _ c.requires (λ marks bytes held.
     absent_at c.args.arena.now c.args.names.now marks bytes c.args.name _ (sym c.get.ensures ∙ c.in_default.is))
-    (asks_still _ _ _ _ _ refl (λ marks bytes. refl) (λ marks bytes. refl))
+    (asks_none _ _ _ _ _ _ refl refl (λ marks bytes. refl) (λ marks bytes. refl))
 
 pub returns-then-len-place-clause-serves : goal.returns-then-len-place-clause-serves
 unfolding step placed_anew
@@ -21,7 +21,7 @@ returns-then-len-place-clause-serves g c = λ source.
     ] in
     serves_still _ _ _ _ _ _ c.requires (λ marks bytes held.
     found_at c.args.arena.now c.args.names.now marks bytes c.args.name 0 c.in-Some.place _ held (sym c.get.ensures ∙ c.in-Some.is)
-    ∙ rw (lt-ltb _ _ past) refl) (asks_still _ _ _ _ _ refl (λ marks bytes. refl) (λ marks bytes. refl))
+    ∙ rw (lt-ltb _ _ past) refl) (asks_none _ _ _ _ _ _ refl refl (λ marks bytes. refl) (λ marks bytes. refl))
 
 pub write-requires : goal.write-requires
 write-requires g c = (

@@ -2,14 +2,12 @@ use Rattle.std.proofs.Common.{◌∙◌, arith, length}
 use Rattle.arena_chunks.proofs.RunLemmas.FirstNames.{get_first, get_other, remove_first, remove_other, none_removed}
 use Rattle.arena_chunks.proofs.runs.names.Names.remove.Goals as goal
 
-pub returns-then-at-len-clause-place : goal.returns-then-at-len-clause-place
-returns-then-at-len-clause-place c = rw (← c.self.view_is)
-    (c.index-held.ensures
-    ∙ get_first c.self.inside.first.items c.self.inside.others c.args.name c.index-held.result.now c.self.invariant.1 (omega arith))
-
-pub returns-then-at-len-clause-rest : goal.returns-then-at-len-clause-rest
-returns-then-at-len-clause-rest c = rw (← c.self.view_is)
-    (remove_first c.self.inside.first.items c.self.inside.others c.args.name c.self.invariant.1 (omega arith))
+pub returns-then-at-len : goal.returns-then-at-len
+returns-then-at-len c = rw (← c.self.view_is) (record {
+  place = c.index-held.ensures
+      ∙ get_first c.self.inside.first.items c.self.inside.others c.args.name c.index-held.result.now c.self.invariant.1 (omega arith);
+  rest = remove_first c.self.inside.first.items c.self.inside.others c.args.name c.self.invariant.1 (omega arith);
+})
 
 pub invariant_of-self-2 : goal.invariant_of-self-2
 invariant_of-self-2 c = (
@@ -18,10 +16,8 @@ invariant_of-self-2 c = (
       (none_removed (length c.self.inside.first.items) c.self.inside.others c.args.name c.self.invariant.1 (omega arith)),
 )
 
-pub returns-clause-place : goal.returns-clause-place
-returns-clause-place c = rw (← c.self.view_is)
-    (c.remove.ensures.place ∙ get_other c.self.inside.first.items c.self.inside.others c.args.name (omega arith))
-
-pub returns-clause-rest : goal.returns-clause-rest
-returns-clause-rest c = rw (← c.self.view_is, c.remove.ensures.rest)
-    (remove_other c.self.inside.first.items c.self.inside.others c.args.name (omega arith))
+pub returns : goal.returns
+returns c = rw (← c.self.view_is) (record {
+  place = c.remove.ensures.place ∙ get_other c.self.inside.first.items c.self.inside.others c.args.name (omega arith);
+  rest = rw c.remove.ensures.rest (remove_other c.self.inside.first.items c.self.inside.others c.args.name (omega arith));
+})
