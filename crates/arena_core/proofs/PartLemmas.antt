@@ -194,9 +194,8 @@ module _ (m : ℕ) (a : Inside m) (memory : Memory) where
   pub whole_range : (block : Block) → Stands m a → view_of m a ≡ memory → IsTrue (is_readable memory.state block) → (block.size ≡ 0 → ⊥)
       → IsRange block.addr block.size
   whole_range block stands view readable some =
-      let more : 0 < block.size = omega (arith, some) in
-      is_range block.addr block.size stands view more
-      (readable_part memory.state block block.addr block.size readable (omega arith) (omega arith) more)
+      let first : block.addr + 0 ≡ block.addr = omega arith in
+      rw first at (block_range block 0 block.size stands view readable (omega arith) some)
 
   pub range_fits : (addr n : ℕ) → IsRange addr n → addr < 2 ^ 64
   range_fits addr n range =

@@ -217,17 +217,10 @@ module _ (m : ℕ) (a : Inside m) where
       let valid = reset_valid (view_of m a).state stands.valid in
       let ready : floor_in a.newest ≤ a.newest.base + length a.newest.bytes.items =
       omega (arith, stands.ready, (newest_ordered stands).high) in
-      rw (next, sized, none) (elim (kind stands) [
-        | inl empty ↦ record {
-          valid = rw empty.0 (rw empty.0 at valid);
-          none = λ same. record { cursor = omega (arith, same, ap length empty.2.bytes); bytes = empty.2.bytes; older = refl };
-          ready = ready;
-          older_ready = All-nil IsReady;
-        }
-        | inr some ↦ record {
-          valid = rw some (rw some at valid);
-          none = λ same. absurd (differs a.newest.base some same);
-          ready = ready;
-          older_ready = All-nil IsReady;
-        }
-      ])
+      rw (next, sized, none) (record {
+        valid = elim (kind stands) [ inl empty ↦ rw empty.0 (rw empty.0 at valid) | inr some ↦ rw some (rw some at valid) ];
+        none = λ same.
+            let is = stands.none same in record { cursor = omega (arith, same, ap length is.bytes); bytes = is.bytes; older = refl };
+        ready = ready;
+        older_ready = All-nil IsReady;
+      })
