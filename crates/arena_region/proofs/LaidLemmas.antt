@@ -2,6 +2,7 @@
 use Rattle.std.proofs.Common.{◌≡◌, ℕ, zero, suc, ◌+◌, ◌-◌, ◌≤◌, List, [], ◌∷◌, ◌++◌, length, take, drop, replicate, refl, sym, ap, ◌∙◌, arith, length-append, length-take-le, append_assoc}
 use Rattle.std.proofs.Math.Seq.{take-length}
 use Rattle.std.proofs.lemmas.List.{replicate-append-replicate, length-replicate, length-drop, drop-drop, take-append-drop}
+use Rattle.std.proofs.lemmas.Grind.{common_steps}
 use Rattle.arena_region.specs.Bytes.{written_from}
 
 -- zeros that are written below the others
@@ -12,10 +13,7 @@ cleared low from xs le =
     ∙ ap (λ l. l ++ xs) (replicate-append-replicate from (low - from) 0 ∙ ap (λ n. replicate n 0) all)
 
 take_less : (n m : ℕ) (xs : List ℕ) → n ≤ m → take n (take m xs) ≡ take n xs
-take_less zero m xs le = refl
-take_less (suc n) zero xs le = absurd (omega arith)
-take_less (suc n) (suc m) [] le = refl
-take_less (suc n) (suc m) (x ∷ xs) le = ap (λ l. x ∷ l) (take_less n m xs (omega arith))
+take_less n m xs le = grind (arith, common_steps)
 
 -- only the first bytes of a list under another one count
 refilled : (n : ℕ) (ws xs : List ℕ) → take n (ws ++ drop (length ws) xs) ≡ take n (ws ++ drop (length ws) (take n xs))
@@ -90,7 +88,3 @@ written_part from start end xs ws below within fits =
     (omega (arith, length-drop end ws))
     ∙ ap (written_from xs (from + start)) (ap (λ l. take (end - start) (drop start ws) ++ l) last
     ∙ take-append-drop (end - start) (drop start ws))
-
--- writing nothing changes nothing
-pub written_nothing : (xs : List ℕ) (i : ℕ) → written_from xs i [] ≡ xs
-written_nothing xs i = ap (take (length xs)) (take-append-drop i xs) ∙ take-length xs
