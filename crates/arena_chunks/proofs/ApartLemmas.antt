@@ -12,28 +12,22 @@ all_from_none (b ∷ bs) = (tt, all_from_none bs)
 
 -- from the blocks of two lists
 pub all_from_both : (bs xs ys : List Block) → AreAllApart bs (xs ++ ys) ↔ (AreAllApart bs xs × AreAllApart bs ys)
-all_from_both bs xs ys = (parts bs, λ both. joined bs both.0 both.1)
-  where
-    parts : (bs : List Block) → AreAllApart bs (xs ++ ys) → AreAllApart bs xs × AreAllApart bs ys
-    parts [] apart = (tt, tt)
-    parts (b ∷ bs) apart = let each = apart_each b.addr b.size xs ys apart.0 in let rest = parts bs apart.1 in
-        ((each.0, rest.0), (each.1, rest.1))
-
-    joined : (bs : List Block) → AreAllApart bs xs → AreAllApart bs ys → AreAllApart bs (xs ++ ys)
-    joined [] one two = tt
-    joined (b ∷ bs) one two = (apart_both b.addr b.size xs ys one.0 two.0, joined bs one.1 two.1)
+all_from_both [] xs ys = (λ apart. (tt, tt), λ both. tt)
+all_from_both (b ∷ bs) xs ys =
+    let rest = all_from_both bs xs ys in (
+      λ apart. let each = apart_each b.addr b.size xs ys apart.0 in let parts = rest.0 apart.1 in
+          ((each.0, parts.0), (each.1, parts.1)),
+      λ both. (apart_both b.addr b.size xs ys both.0.0 both.1.0, rest.1 (both.0.1, both.1.1)),
+    )
 
 -- the blocks of two lists
 pub all_of_both : (xs ys others : List Block) → AreAllApart (xs ++ ys) others ↔ (AreAllApart xs others × AreAllApart ys others)
-all_of_both xs ys others = (parts xs, λ both. joined xs both.0 both.1)
-  where
-    parts : (xs : List Block) → AreAllApart (xs ++ ys) others → AreAllApart xs others × AreAllApart ys others
-    parts [] apart = (tt, apart)
-    parts (x ∷ xs) apart = let rest = parts xs apart.1 in ((apart.0, rest.0), rest.1)
-
-    joined : (xs : List Block) → AreAllApart xs others → AreAllApart ys others → AreAllApart (xs ++ ys) others
-    joined [] one two = two
-    joined (x ∷ xs) one two = (one.0, joined xs one.1 two)
+all_of_both [] ys others = (λ apart. (tt, apart), λ both. both.1)
+all_of_both (x ∷ xs) ys others =
+    let rest = all_of_both xs ys others in (
+      λ apart. let parts = rest.0 apart.1 in ((apart.0, parts.0), parts.1),
+      λ both. (both.0.0, rest.1 (both.0.1, both.1)),
+    )
 
 -- Each block is apart, and each that is in the list is one of them.
 pub all_among : (bs others : List Block) (b : Block) → AreAllApart bs others → Contains bs b → IsApart b.addr b.size others

@@ -22,7 +22,7 @@ use Rattle.arena_chunks.specs.Runs.{HoldsBytes}
 use Rattle.arena_chunks.specs.Runs.Serving.{machine_of, Holds, IsBeside, Keeps, Asks, Serves}
 use Rattle.arena_store.specs.declared.block.Block.{Block}
 use Rattle.call_rules.proofs.HeldLemmas.{get-inserted, get-insert_other}
-use Rattle.arena_core.proofs.FrameLemmas.{apart_turned, beside_range}
+use Rattle.arena_core.proofs.FrameLemmas.{apart_turned, apart_unpadded, beside_range}
 use Rattle.arena_store.proofs.BytesLemmas.{written_beside}
 use Rattle.arena_core.proofs.WrittenLemmas.{bytes_same}
 
@@ -38,12 +38,6 @@ pub padded_empty : (m : ℕ) (b : Place) → 0 < m → b.addr % m ≡ 0 → b.si
 padded_empty m b positive aligned none =
     let here : b.addr + b.size ≡ b.addr = omega arith in
     omega (arith, ap (λ (x : ℕ). up x m) here ∙ up_same b.addr m positive aligned)
-
--- what is apart from a padded place is apart from its block
-pub beside_apart : (m : ℕ) (b : Place) (addr n : ℕ) → 0 < m → IsBeside m b addr n → AreApart addr n b.addr b.size
-beside_apart m b addr n positive beside = λ many some.
-    let reach = up_ge (b.addr + b.size) m positive in
-    elim (beside (omega arith) many) [ inl above ↦ inr (omega arith) | inr under ↦ inl (omega arith) ]
 
 used_place : (state : State) (p : Place) → (0 < p.size → IsTrue (is_range_used state.chunks p.addr p.size)) → IsTrue (is_place_used state p)
 used_place state p used = elim (cases_lt 0 p.size) [
@@ -204,24 +198,22 @@ module _ (old new : Memory) (names after : Held) (name : ℕ) (a b : Place) (hol
 pub change_written : (old mid new : Memory) (names after : Held) (name : ℕ) (a b : Place) (at : ℕ) (list : List ℕ) → IsValid old.state
     → IsChange old mid names after name a b
     → at + length list ≤ b.size → new.state ≡ mid.state → Writes mid new (b.addr + at) list → IsChange old new names after name a b
-change_written old mid new names after name a b at list valid change within same writes =
-    let positive = min_align_positive old.state.min_align valid.min_align in
-    record {
-      valid = subst IsValid (sym same) change.valid;
-      min_align = ap (λ (s : State). s.min_align) same ∙ change.min_align;
-      used = λ addr n some used beside. subst (λ (s : State). IsTrue (is_range_used s.chunks addr n)) (sym same)
-          (change.used addr n some used beside);
-      bytes = λ addr used beside. writes addr
-          ∙ written_beside (image mid) (b.addr + at) addr list
-          (beside_range addr b.addr b.size (b.addr + at) (length list)
-          (beside_apart old.state.min_align b addr 1 positive (change.beside addr used beside)) (omega arith) (omega arith))
-          ∙ change.bytes addr used beside;
-      gone = change.gone;
-      beside = change.beside;
-      rest = change.rest;
-      own = λ p is. ((change.own p is).0, subst (λ (s : State). IsBlock s b) (sym same) (change.own p is).1);
-      marks = λ mark accepted. subst (KeepsMark mark old.state) (sym same) (change.marks mark accepted);
-    }
+change_written old mid new names after name a b at list valid change within same writes = record {
+  valid = subst IsValid (sym same) change.valid;
+  min_align = ap (λ (s : State). s.min_align) same ∙ change.min_align;
+  used = λ addr n some used beside. subst (λ (s : State). IsTrue (is_range_used s.chunks addr n)) (sym same)
+      (change.used addr n some used beside);
+  bytes = λ addr used beside. writes addr
+      ∙ written_beside (image mid) (b.addr + at) addr list
+      (beside_range addr b.addr b.size (b.addr + at) (length list)
+      (apart_unpadded old.state b.addr b.size addr 1 valid (change.beside addr used beside)) (omega arith) (omega arith))
+      ∙ change.bytes addr used beside;
+  gone = change.gone;
+  beside = change.beside;
+  rest = change.rest;
+  own = λ p is. ((change.own p is).0, subst (λ (s : State). IsBlock s b) (sym same) (change.own p is).1);
+  marks = λ mark accepted. subst (KeepsMark mark old.state) (sym same) (change.marks mark accepted);
+}
 
 -- A block was placed for a name, in place of the one that it had, or of none.
 pub change_placed : (old new : Memory) (names : Held) (name size align p : ℕ) (a : Place) (before blocks : List Block)

@@ -19,7 +19,7 @@ use Rattle.arena_rules.specs.declared.place.Place.{Place}
 use Rattle.call_rules.specs.declared.calls.Call.TheVariants.{Grow, Shrink}
 use Rattle.call_rules.specs.declared.calls.Reply.{Reply}
 use Rattle.call_rules.specs.declared.calls.Reply.TheVariants.{Placed, AllocErr}
-use Rattle.arena_rules.proofs.RoundingLemmas.{min_align_positive, layout_power}
+use Rattle.arena_rules.proofs.RoundingLemmas.{layout_power}
 use Rattle.arena_rules.proofs.MarkLemmas.{resize_keeps}
 use Rattle.arena_rules.proofs.MoveLemmas.{grow_moved, shrink_moved}
 use Rattle.arena_rules.proofs.PlacedLemmas.{resize_at_cursor, grow_at_cursor}
@@ -34,9 +34,10 @@ use Rattle.arena_chunks.specs.Runs.Serving.{machine_of, Holds, Serves, ServesNot
 use Rattle.arena_store.specs.declared.block.Block.{Block}
 use Rattle.arena_chunks.specs.declared.runs.marks.Mark.{Mark}
 use Rattle.arena_chunks.proofs.RunLemmas.Log.{notes_still, inserted_at_cursor, inserted_within, noting, not_both}
+use Rattle.arena_core.proofs.FrameLemmas.{apart_unpadded}
 use Rattle.arena_core.proofs.WrittenLemmas.{bytes_filled, take_bytes}
 use Rattle.arena_chunks.proofs.RunLemmas.Serving.{serves_placed, asks_none, serves_still, found_at}
-use Rattle.arena_chunks.proofs.RunLemmas.Change.{IsChange, beside_apart, change_written, change_placed}
+use Rattle.arena_chunks.proofs.RunLemmas.Change.{IsChange, change_written, change_placed}
 
 -- a block in place of the name's
 change_moved : (old new : Memory) (names : Held) (name size align p : ℕ) (a : Place) (blocks : List Block) → Holds old.state names
@@ -49,7 +50,7 @@ change_moved : (old new : Memory) (names : Held) (name size align p : ℕ) (a : 
 change_moved old new names name size align p a blocks holds found good moved valid frame marks =
     change_placed old new names name size align p a (block_at old.state.generation a ∷ []) blocks holds
     (λ filled. found) good moved valid frame
-    (λ addr n beside. (beside_apart old.state.min_align a addr n (min_align_positive old.state.min_align holds.valid.min_align) beside, tt))
+    (λ addr n beside. (apart_unpadded old.state a.addr a.size addr n holds.valid beside, tt))
     marks
 
 serves_grow : (old mid new : Memory) (names : Held) (name size align fill k : ℕ) (a : Place) (block : Block) (before later : Source)
