@@ -1,5 +1,5 @@
 -- What the calls on blocks mean for a layer above.
-use Rattle.std.proofs.Common.{◌≡◌, ℕ, zero, suc, ◌+◌, ◌*◌, ◌^◌, ◌<◌, ◌≤◌, List, [], ◌∷◌, ◌++◌, length, map, sum, inl, inr, ap, refl, sym, ◌∙◌, arith, IsTrue, false}
+use Rattle.std.proofs.Common.{◌≡◌, ℕ, zero, suc, ◌+◌, ◌*◌, ◌^◌, ◌<◌, ◌≤◌, List, [], ◌∷◌, ◌++◌, length, map, sum, inl, inr, ap, refl, sym, ◌∙◌, arith, IsTrue, Some, false}
 use Rattle.std.specs.List.{AllByRecursion}
 use Rattle.std.specs.Prelude.{nat_lt, nat_le, ◌==◌, ◌&&◌}
 use Rattle.std.proofs.lemmas.Bool.{cases_lt, cond_both, or_cases}
@@ -8,8 +8,8 @@ use Rattle.std.proofs.lemmas.Grind.{common_steps}
 use Rattle.std.proofs.lemmas.List.Sums.{sum_by-cons}
 use Rattle.std.proofs.lemmas.Option.{cond_some}
 use Rattle.arena_rules.specs.State.{State, Chunk, IsValid, AreApart, AreChunks, cursor_of, used_length, used_bytes, is_used_by, is_range_used}
-use Rattle.arena_rules.specs.Moves.{Outcome, Resizing, shrink_step, placed, stays, fails}
-use Rattle.arena_rules.specs.Moves.Resizing.{Moves, Stays as StaysThere}
+use Rattle.arena_rules.specs.Moves.{Outcome, Resizing, resize, shrink_step, placed, stays, fails}
+use Rattle.arena_rules.specs.Moves.Resizing.{Anew, Moves, Stays as StaysThere}
 use Rattle.arena_rules.specs.Lists.{splice}
 use Rattle.arena_rules.specs.Blocks.{padded_size}
 use Rattle.arena_rules.proofs.UsedLemmas.{used_low, used_below_last}
@@ -101,25 +101,13 @@ placed_pairwise old new size align b bs places readable apart = (placed_apart ol
 
 -- ---- A block that shrinks without a greater alignment
 
--- A block that stays is returned.
-stays_placed : (old new : View) (block : Block) (size align k : ℕ) (answer : Answer)
-    → ResizesAfter StaysThere old new block size align k answer → (b : Block) × (answer ≡ Placed b)
-stays_placed old new block size align k (Placed b) is = (b, refl)
-stays_placed old new block size align k (AnswerRefused n) is =
-    let same = (cond_some (k == 0) (stays old.memory.state block.addr) (fails old.memory.state) is.outcome.1.step).1 in
-    let answers = ap (λ (o : Outcome). o.answer) same in
-    cc
-stays_placed old new block size align k Exhausted is = let way = is.outcome.0 in cc
-
--- So is one that moves up.
-moves_placed : (q : ℕ) (old new : View) (block : Block) (size align k : ℕ) (answer : Answer)
-    → ResizesAfter (Moves q) old new block size align k answer → (b : Block) × (answer ≡ Placed b)
-moves_placed q old new block size align k (Placed b) is = (b, refl)
-moves_placed q old new block size align k (AnswerRefused n) is =
-    let same = (cond_some (k == 0) (placed old.memory.state q) (fails old.memory.state) is.outcome.1.step).1 in
-    let answers = ap (λ (o : Outcome). o.answer) same in
-    cc
-moves_placed q old new block size align k Exhausted is = let way = is.outcome.0 in cc
+-- A block that stays or moves up is returned.
+kept_placed : (way : Resizing) (old new : View) (block : Block) (size align k : ℕ) (answer : Answer) → (way ≡ Anew → ⊥)
+    → (resize way old.memory.state block.addr size align k ≡ Some (fails old.memory.state) → ⊥)
+    → ResizesAfter way old new block size align k answer → (b : Block) × (answer ≡ Placed b)
+kept_placed way old new block size align k (Placed b) kept moves is = (b, refl)
+kept_placed way old new block size align k (AnswerRefused n) kept moves is = absurd (moves is.outcome.1.step)
+kept_placed way old new block size align k Exhausted kept moves is = absurd (kept is.outcome.0)
 
 -- Shrinking without a greater alignment is never refused, and never runs out of memory.
 pub shrunk_placed : (old new : View) (block : Block) (size align : ℕ) (answer : Answer) → align ≤ block.align
@@ -128,8 +116,11 @@ shrunk_placed old new block size align answer lower shrinks =
     cond_both (nat_lt block.align align) _ _ Answers (λ higher. absurd (grind (arith, nat_tests)))
     (λ test. cond_both (block.addr == cursor_of old.memory.state.chunks && nat_le block.size
     (2 * shrink_step old.memory.state block.size size align)) _ _ Answers
-    (λ last. moves_placed (block.addr + shrink_step old.memory.state block.size size align) old new block size align shrinks.0 answer)
-    (λ other. stays_placed old new block size align shrinks.0 answer))
+    (λ last. kept_placed (Moves (block.addr + shrink_step old.memory.state block.size size align)) old new block size align shrinks.0 answer
+    (λ anew. cc) (λ step.
+    let answers = ap (λ (o : Outcome). o.answer) (cond_some (shrinks.0 == 0) (placed old.memory.state _) _ step).1 in cc))
+    (λ other. kept_placed StaysThere old new block size align shrinks.0 answer (λ anew. cc) (λ step.
+    let answers = ap (λ (o : Outcome). o.answer) (cond_some (shrinks.0 == 0) (stays old.memory.state block.addr) _ step).1 in cc)))
     shrinks.1
   where
     Answers : Resizing → Type 0
