@@ -9,8 +9,8 @@ use Rattle.hash_ring.specs.Slots.{items, Has, IsOnce, IsOrdered, Settled, Moved}
 use Rattle.hash_ring.specs.Walks.{front_of, AreFree, GoesOn}
 use Rattle.hash_ring.specs.declared.scan.Scan.{Scan}
 use Rattle.hash_ring.proofs.Count.{items-none, none-there}
-use Rattle.hash_ring.proofs.Places.{one-item, not_free}
-use Rattle.hash_ring.proofs.Scanning.{left-clear, left-end, left-goes}
+use Rattle.hash_ring.proofs.Places.{one-item}
+use Rattle.hash_ring.proofs.Scanning.{nothing, left-clear, left-end, left-goes}
 
 -- all slots free are in order
 pub ordered-none : {X : Type 0} (home : X → ℕ) (n : ℕ) → IsOrdered home n (replicate n None)
@@ -30,17 +30,12 @@ filled-room old n i new h f = omega (arith, f.count)
 
 module _ {X : Type 0} (n : ℕ) (marks : List ℕ) (old : List (Option X)) (long : length old ≡ n)
     (free : (i : ℕ) → i < n → slice_index marks i ≡ 0 → slice_get old i ≡ Some None) where
-  -- no item is in a slot whose mark isn't set
-  nothing : (i j : ℕ) → AreFree marks i j → (k : ℕ) (x : X) → i ≤ k → k < j → slice_get old k ≡ Some (Some x) → ⊥
-  nothing i j none k x from to s =
-      not_free x (sym s ∙ free k (omega (arith, long, slice_get_within old k (Some x) s)) (none k from to))
-
   -- before the walk no item is there
   pub filled-start : (s : Scan) (m : ℕ) → AreFree marks 0 (front_of s) → Filled old (front_of s) (replicate m None)
   filled-start s m none = record {
     count = omega (arith, ap length (items-none {X = X} m), ap length (left-clear n marks old long free 0 (front_of s) (omega arith) none));
     only = λ x h. absurd (none-there m h.0 x h.1);
-    keeps = λ j x l there. absurd (nothing 0 (front_of s) none j x (omega arith) l there);
+    keeps = λ j x l there. absurd (nothing n marks old long free 0 (front_of s) none j x (omega arith) l there);
     once = λ content o i j x y there other e. absurd (none-there m i x there);
   }
 
@@ -57,9 +52,9 @@ module _ {X : Type 0} (n : ℕ) (marks : List ℕ) (old : List (Option X)) (long
     keeps = λ j y l is. elim (cases_lt j (front_of s)) [
       | inl k ↦ settled.keeps y (f.keeps j y k is)
       | inr k ↦ elim (cases_lt j at) [
-        | inl before ↦ absurd (nothing (front_of s) at g.over j y (omega arith) before is)
+        | inl before ↦ absurd (nothing n marks old long free (front_of s) at g.over j y (omega arith) before is)
         | inr h ↦ elim (cases_lt at j) [
-          | inl behind ↦ absurd (nothing (at + 1) (front_of t) g.behind j y (omega arith) l is)
+          | inl behind ↦ absurd (nothing n marks old long free (at + 1) (front_of t) g.behind j y (omega arith) l is)
           | inr h' ↦
               let same : at ≡ j = omega arith in
               subst (λ w. Has new' w) (one-item old at x y there (ap (slice_get old) same ∙ is)) settled.put
@@ -78,7 +73,7 @@ module _ {X : Type 0} (n : ℕ) (marks : List ℕ) (old : List (Option X)) (long
     only = λ x h. let r = f.only x h in (r.0, r.2);
     keeps = λ x h. elim (cases_lt h.0 (front_of s)) [
       | inl l ↦ f.keeps h.0 x l h.1
-      | inr l ↦ absurd (nothing (front_of s) n none h.0 x (omega arith) (omega (arith, long, slice_get_within old h.0 (Some x) h.1)) h.1)
+      | inr l ↦ absurd (nothing n marks old long free (front_of s) n none h.0 x (omega arith) (omega (arith, long, slice_get_within old h.0 (Some x) h.1)) h.1)
     ];
     once = f.once;
   }

@@ -1,7 +1,6 @@
-use Rattle.std.proofs.Common.{◌+◌, ◌-◌, arith, take, refl, w64, bit_and}
+use Rattle.std.proofs.Common.{◌+◌, arith, take, refl}
 use Rattle.std.proofs.lemmas.List.{length-take-le}
-use Rattle.std.specs.Int.{trailing_zeros}
-use Rattle.hash_ring.proofs.Scanning.{goes-from, group-whole, scan-goes, scan-group, scan-step, taken-take}
+use Rattle.hash_ring.proofs.Scanning.{group-whole, scan-goes, scan-group, scan-step, taken-take}
 use Rattle.hash_ring.proofs.scan.step.Goals as goal
 
 pub taken_of_many-rest-requires : goal.taken_of_many-rest-requires
@@ -25,16 +24,11 @@ groups-preserved c =
 
 pub returns-clause-scan : goal.returns-clause-scan
 returns-clause-scan c =
-    scan-step c.args.slots (take c.args.slots c.args.bytes.now) (record { base = c.groups.base; rest = c.groups.rest })
-    c.groups.invariant.0 (omega (arith, c.groups-test.false)) c.groups.auto.rest-fits.fits
-    (record { base = c.groups.base; rest = bit_and c.groups.rest (c.groups.rest - 1) }) refl refl
+    scan-step _ _ (record { base = c.groups.base; rest = c.groups.rest }) c.groups.invariant.0 (omega (arith, c.groups-test.false))
+    c.groups.auto.rest-fits.fits
 
 pub returns-clause-goes : goal.returns-clause-goes
 returns-clause-goes c =
-    goes-from c.args.slots (take c.args.slots c.args.bytes.now) c.args.scan (record { base = c.groups.base; rest = c.groups.rest })
-    (record { base = c.groups.base; rest = bit_and c.groups.rest (c.groups.rest - 1) })
-    (c.groups.base + trailing_zeros w64 c.groups.rest) c.groups.invariant.1 c.groups.invariant.2
-    (scan-goes c.args.slots (take c.args.slots c.args.bytes.now) (record { base = c.groups.base; rest = c.groups.rest })
-    c.groups.invariant.0 (omega (arith, c.groups-test.false)) c.groups.auto.rest-fits.fits
-    (record { base = c.groups.base; rest = bit_and c.groups.rest (c.groups.rest - 1) }) refl refl
-    (omega (arith, length-take-le c.args.slots c.args.bytes.now c.requires.long)))
+    scan-goes _ _ (record { base = c.groups.base; rest = c.groups.rest }) c.groups.invariant.0 (omega (arith, c.groups-test.false))
+    c.groups.auto.rest-fits.fits c.args.scan c.groups.invariant.1 c.groups.invariant.2
+    (omega (arith, length-take-le c.args.slots c.args.bytes.now c.requires.long))
