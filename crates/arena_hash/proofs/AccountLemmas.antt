@@ -17,7 +17,7 @@ use Rattle.arena_items.specs.declared.room.AllocError.TheVariants.{AllocErr, Cap
 use Rattle.arena_items.specs.declared.room.Growth.TheVariants.{Stays, GrowsTo, Overflows}
 use Rattle.hash_ring.specs.Policy.{most_pairs, table_align, slot_size, limit, credit, next_slots, IsSlotsFor}
 use Rattle.hash_ring.specs.Marks.{IsRing}
-use Rattle.hash_ring.proofs.PolicyLemmas.{unit-covers, table-fits, slots-ring, next-ring, capacity-bytes, growth-bytes, credit-rises}
+use Rattle.hash_ring.proofs.PolicyLemmas.{unit-covers, table-small, slots-ring, next-ring, capacity-bytes, growth-bytes, credit-rises}
 use Rattle.hash_ring.proofs.PolicyLemmas.{credit-falls}
 use Rattle.arena_table.specs.Contents.{Kind}
 use Rattle.arena_table.proofs.LayoutLemmas.{table-layout}
@@ -101,7 +101,7 @@ module _ {K V S : Type 0} (k : Kind K V S) (keys : IsItemLayout k.keys.SIZE k.ke
   capacity-costs {X} old new block pairs slots result some few is took = (
     record {
       size = slots * size;
-      bounded = table-fits _ _ slots keys_small values_small ring.2;
+      bounded = omega (arith, table-small k.keys.SIZE k.values.SIZE slots keys_small values_small ring.2);
       within = omega (arith, bytes);
       took =
           took;
@@ -148,7 +148,7 @@ module _ {K V S : Type 0} (k : Kind K V S) (keys : IsItemLayout k.keys.SIZE k.ke
       grows = λ is none. grows result made slots len;
       asks = λ is none least. record {
         size = next_slots m.table.slots * size;
-        bounded = table-fits _ _ (next_slots m.table.slots) keys_small values_small next.2;
+        bounded = omega (arith, table-small k.keys.SIZE k.values.SIZE (next_slots m.table.slots) keys_small values_small next.2);
         within = omega (arith, bytes);
         took = record {
           between = made.between;

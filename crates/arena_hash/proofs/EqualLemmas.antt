@@ -3,9 +3,9 @@ use Rattle.std.proofs.Common.{◌≡◌, ℕ, List, [], ◌∷◌, ◌++◌, app
 use Rattle.std.proofs.lemmas.Bool.{both_ways, not-true, not-false}
 use Rattle.std.specs.Prelude.{slice_get, not, IsTrue}
 use Rattle.arena_chunks.specs.Memory.{Memory, is_readable}
-use Rattle.hash_ring.specs.Finite.{value_of}
+use Rattle.hash_ring.specs.Finite.{has, value_of}
 use Rattle.hash_ring.specs.Walks.{AreBoth, AreEqual, Lists}
-use Rattle.hash_ring.proofs.Equal.{AreFound, equal-found, equal-length, found-equal, found-next, same-length}
+use Rattle.hash_ring.proofs.Equal.{AreFound, both-has, equal-found, found-equal, found-next, same-length}
 use Rattle.hash_ring.proofs.Under.{in-under, under-has}
 use Rattle.arena_table.specs.Contents.{Kind, content_in}
 use Rattle.arena_table.specs.Tables.{slots_in}
@@ -22,7 +22,7 @@ module _ {K V S : Type 0} {k : Kind K V S} {memory : Memory} (eq : V → V → B
   pub equal-len : AreEqual {K = K} eq (map_in k memory one) (map_in k memory other) → one.len ≡ other.len
   equal-len equal =
       held.count
-      ∙ (equal-length content eq (pairs_in k memory one) (pairs_in k memory other) held.once held'.once equal ∙ sym held'.count)
+      ∙ same-length content content (pairs_in k memory one) _ held.once held'.once (λ q. both-has eq _ _ (equal q)) ∙ sym held'.count
 
   -- A walk gives the pairs of the first map, and the other has those that were given.
   module _ {xs all done left : List (K × V)} (lists : Lists content (map_in k memory one) xs) (are : all ≡ xs)
@@ -52,7 +52,7 @@ module _ {K V S : Type 0} {k : Kind K V S} {memory : Memory} (eq : V → V → B
     -- at the end the maps are equal
     pub all-equal : one.len ≡ other.len → left ≡ [] → AreEqual {K = K} eq (map_in k memory one) (map_in k memory other)
     all-equal len none =
-        let same = same-length content all (pairs_in k memory one) listed.once held.once listed.map_is in
+        let same = same-length content content all (pairs_in k memory one) listed.once held.once (λ q. ap (λ m. has m q) listed.map_is) in
         let whole : all ≡ done = found.whole ∙ (ap (λ r. done ++ r) none ∙ append-nil done) in
         subst (λ m. AreEqual {K = K} eq m (map_in k memory other)) listed.map_is
         (equal-found content eq all (pairs_in k memory other) listed.once (omega (arith, same, len, held.count, held'.count))

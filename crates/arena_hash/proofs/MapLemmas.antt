@@ -12,7 +12,7 @@ use Rattle.hash_ring.specs.Policy.{limit}
 use Rattle.hash_ring.specs.Slots.{items, Has, IsOnce, Lacks, Settled, Closed, Moved}
 use Rattle.hash_ring.specs.AgreeLaws.{under-agree}
 use Rattle.hash_ring.proofs.Agree.{once-agree}
-use Rattle.hash_ring.proofs.Count.{count-swap}
+use Rattle.hash_ring.proofs.Count.{count-set}
 use Rattle.hash_ring.proofs.Once.{are_once, is_once}
 use Rattle.hash_ring.proofs.Places.{put-cases}
 use Rattle.hash_ring.proofs.Under.{has-under, lacks-under, under-moved, under-settled, under-closed, once-value, under-value}
@@ -148,7 +148,7 @@ module _ {K V S : Type 0} (k : Kind K V S) where
             next-held change-knows
             (subst (λ s. IsOnce (content old) s) (sym changed) (once-value (content_in k.key old) (slots old m) at p.0 p.1 value
             (map-once old m held) there))
-            (omega (arith, len, held.count, ap (λ s. length (items s)) changed, count-swap (slots old m) at (p.0, value) p there))
+            (omega (arith, len, held.count, ap (λ s. length (items s)) changed, count-set (slots old m) at (Some p) (Some (p.0, value)) there))
             within
 
         pub change-is : (key : K) → map_in k new w ≡ with_pair (map_in k old m) (content old p) key value

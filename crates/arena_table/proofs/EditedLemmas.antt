@@ -1,5 +1,5 @@
 -- Tables in an arena whose bytes are edited.
-use Rattle.std.proofs.Common.{◌≡◌, ℕ, ◌+◌, ◌-◌, ◌<◌, ◌≤◌, inl, inr, sym, ap, subst, ◌∙◌, Some}
+use Rattle.std.proofs.Common.{arith, ◌≡◌, ℕ, ◌+◌, ◌-◌, ◌<◌, ◌≤◌, inl, inr, sym, ap, subst, ◌∙◌, Some}
 use Rattle.std.specs.Prelude.{slice_get, slice_index}
 use Rattle.std.proofs.Math.Nat.{mod-lt}
 use Rattle.arena_chunks.specs.Memory.{Memory}
@@ -7,7 +7,6 @@ use Rattle.arena_chunks.specs.BlockCalls.{EditsBlock}
 use Rattle.arena_items.specs.Values.{bytes_of}
 use Rattle.hash_ring.specs.Slots.{spot, IsAway, IsPlaceFor, Settled, Closed}
 use Rattle.hash_ring.specs.Marks.{home_of, mark_of}
-use Rattle.hash_ring.proofs.MarkLemmas.{mark-away}
 use Rattle.hash_ring.proofs.Order.{away-by, away-of, away-same}
 use Rattle.hash_ring.proofs.RingLemmas.{spot-less}
 use Rattle.arena_table.specs.Contents.{Kind}
@@ -71,7 +70,7 @@ module _ {K V S : Type 0} (k : Kind K V S) (memory : Memory) (hasher : S) (t : T
       let slots = slots_in k.keys k.values memory t in
       let away = away-of (λ p. home_of t.slots (pair_hash k memory hasher p)) t.slots homes slots from x held.table.ordered.long there in
       let marked = is ∙ held.table.marks from away.0 x away.1 in
-      let far : away.0 ≡ away.0 - 1 + 1 = mark-away (pair_hash k memory hasher x) away.0 (subst (λ m. 32 ≤ m) marked high) in (
+      let far : away.0 ≡ away.0 - 1 + 1 = omega (arith, marked) in (
         away.0 - 1,
         subst (λ d. IsAway (λ p. home_of t.slots (pair_hash k memory hasher p)) t.slots slots from x d) far away.1,
         marked ∙ ap (mark_of (pair_hash k memory hasher x)) far,

@@ -13,9 +13,8 @@ use Rattle.hash_ring.specs.Slots.{spot, items, Has, IsAway, IsOrdered, Closed}
 use Rattle.hash_ring.specs.Marks.{home_of, mark_of}
 use Rattle.hash_ring.proofs.Agree.{closing-agree}
 use Rattle.hash_ring.proofs.Close.{Closing, closing-pull, closing-free}
-use Rattle.hash_ring.proofs.MarkLemmas.{mark-home, mark-some}
 use Rattle.hash_ring.proofs.Places.{put-cases, free-cases}
-use Rattle.hash_ring.proofs.RingLemmas.{spot-less, spot-next, spot-before, next-spot}
+use Rattle.hash_ring.proofs.RingLemmas.{spot-before, next-spot}
 use Rattle.arena_table.specs.Contents.{Kind}
 use Rattle.arena_table.specs.Edits.{SetsSlot, CopiesSlot}
 use Rattle.arena_table.specs.Tables.{pair_hash, slots_in, IsTableIn, IsTextBeside}
@@ -60,7 +59,7 @@ module _ {K V S : Type 0} (k : Kind K V S) (old new : Memory) (hasher : S) (t : 
       sets : SetsSlot k.keys k.values t.slots (bytes_of old t.block) (bytes_of new t.block) gap mark (Some x)
       sets =
           let copies = edited-whole _ _ _ _ (λ xs ys p. p.long) edits in
-          copies.sets x away.there (omega (arith, marked, mark-some (pair_hash k old hasher x) d))
+          copies.sets x away.there (omega (arith, marked))
 
       on : Closing home t.slots start from (steps + 1) after next
       on =
@@ -80,8 +79,7 @@ module _ {K V S : Type 0} (k : Kind K V S) (old new : Memory) (hasher : S) (t : 
       far-held =
           let low : d < t.slots = omega (arith, away.less) in
           let here : gap ≡ spot t.slots (home x) d =
-          spot-before t.slots gap (spot t.slots (home x) d) within (spot-less t.slots (home x) d (homes x) low)
-          (sym next-is ∙ (away.place ∙ sym (spot-next t.slots (home x) d (homes x) low))) in
+          spot-before t.slots gap (home x) d within (homes x) low (sym next-is ∙ away.place) in
           let ordered = subst (λ q. IsOrdered home t.slots q) sets.slots on.ordered in
           in-edited _ _ _ _ _ held edits.writes.frame edits.writes.state
           (table-put _ _ _ _ some _ _ (handle-shape _ _ _ _ small few held.handle some) held.table _ x d _ within low here marked sets
@@ -110,7 +108,7 @@ module _ {K V S : Type 0} (k : Kind K V S) (old new : Memory) (hasher : S) (t : 
       done : IsOrdered home t.slots (set slots gap None) × Closed from (set slots gap None) start
       done = closing-free home t.slots homes start from steps slots gap begun closing (λ y e a.
           let a' = subst (λ p. IsAway home t.slots slots p y e) (sym next-is) a in
-          mark-home (pair_hash k old hasher y) e (subst (λ m. m < 32) (held.table.marks next e y a') low))
+          omega (arith, held.table.marks next e y a', low))
 
       pub far-freed : IsTableIn k new hasher t
       far-freed =

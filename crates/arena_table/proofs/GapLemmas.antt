@@ -9,9 +9,8 @@ use Rattle.hash_ring.specs.Marks.{home_of, mark_of}
 use Rattle.std.proofs.Math.Nat.{mod-lt}
 use Rattle.hash_ring.proofs.Close.{Closing, closing-start, closing-less, closing-pull, closing-free}
 use Rattle.hash_ring.proofs.Homes.{home-less, step-place}
-use Rattle.hash_ring.proofs.MarkLemmas.{mark-home, mark-away, mark-back}
 use Rattle.hash_ring.proofs.Order.{away-of}
-use Rattle.hash_ring.proofs.RingLemmas.{spot-less, spot-zero, spot-same, spot-next, spot-before, next-spot}
+use Rattle.hash_ring.proofs.RingLemmas.{spot-less, spot-zero, spot-same, spot-before, next-spot}
 use Rattle.arena_table.specs.Edits.{SetsSlot, CopiesSlot, ClosesGap, IsNear}
 use Rattle.arena_table.specs.Tables.{slots_of, IsShape, IsTable}
 use Rattle.arena_table.proofs.SlotLemmas.{slots-long, slot-taken}
@@ -133,17 +132,15 @@ module _ {K V : Type 0} (keys : Ghosts K) (values : Ghosts V) (n start : ℕ) (f
                 let home : K × V → ℕ = λ p. home_of n (hash p) in
                 let away = away-of home _ (homes hash) slots next y.0 (slots-long _ _ _ _ s.shape) y.1 in
                 let mark : get_or bytes next 0 ≡ mark_of (hash y.0) away.0 = w.1.marks next away.0 y.0 away.1 in
-                let far : away.0 ≡ away.0 - 1 + 1 = mark-away (hash y.0) _ (omega (arith, mark, high)) in
+                let far : away.0 ≡ away.0 - 1 + 1 = omega (arith, mark, high) in
                 let a : IsAway home n slots (spot n gap 1) y.0 (away.0 - 1 + 1) = subst (λ d. IsAway home n slots (spot n gap 1) y.0 d) far
                 (subst (λ p. IsAway home n slots p y.0 away.0) next-is away.1) in
                 let on = closing-pull _ _ (homes hash) _ _ _ _ _ begun w.0 room _ (away.0 - 1) a in
                 let low-d : away.0 - 1 < n = omega (arith, a.less) in
-                let here : gap ≡ spot n (home y.0) (away.0 - 1) = spot-before n _ _ s.within
-                (spot-less n (home y.0) (away.0 - 1) (homes hash y.0) low-d)
-                (a.place ∙ sym (spot-next n (home y.0) (away.0 - 1) (homes hash y.0) low-d)) in
+                let here = spot-before n gap (home y.0) (away.0 - 1) s.within (homes hash y.0) low-d a.place in
                 let mark' : get_or bytes next 0 ≡ mark_of (hash y.0) (away.0 - 1 + 1) = mark ∙ ap (mark_of (hash y.0)) far in
                 let less' : get_or bytes next 0 - 16 ≡ mark_of (hash y.0) (away.0 - 1) =
-                ap (λ m. m - 16) mark' ∙ mark-back (hash y.0) (away.0 - 1) (subst (λ m. m < 240) mark' low) in (
+                omega (arith, mark', low) in (
                   subst (λ p. Closing home n start (slots_of keys values n from) (k + 1) (slots_of keys values n new) p) (sym next-is)
                       (subst (λ q. Closing home n start (slots_of keys values n from) (k + 1) q (spot n gap 1)) (sym sets.slots) on),
                   table-put _ _ _ _ some _ _ s.shape w.1 _ y.0 (away.0 - 1) _ s.within low-d here less' sets on.ordered,
@@ -168,7 +165,7 @@ module _ {K V : Type 0} (keys : Ghosts K) (values : Ghosts V) (n start : ℕ) (f
             let low : get_or bytes next 0 < 32 = elim stops [ inl l ↦ l | inr h ↦ absurd (omega (arith, far', h)) ] in
             let done = closing-free home n (homes hash) start (slots_of keys values n from) k slots gap begun w.0 (λ y e a.
             let a' : IsAway home n slots next y e = subst (λ p. IsAway home n slots p y e) (sym next-is) a in
-            mark-home (hash y) e (subst (λ m. m < 32) (w.1.marks next e y a') low)) in (
+            omega (arith, w.1.marks next e y a', low)) in (
               table-free keys values hash n some bytes new s.shape w.1 gap s.within sets done.0,
               subst (λ q. Closed (slots_of keys values n from) q start) (sym sets.slots) done.1,
             );

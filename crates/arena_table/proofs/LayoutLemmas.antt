@@ -9,7 +9,7 @@ use Rattle.arena_items.specs.Layout.{IsAlign, IsItemLayout}
 use Rattle.arena_items.specs.LayoutLaws.{IsAlign-bounds, up-is, plain_8, pair_layout}
 use Rattle.arena_items.proofs.Layers.{row_is_layout}
 use Rattle.hash_ring.specs.Policy.{table_align, slot_size}
-use Rattle.hash_ring.proofs.PolicyLemmas.{table-fits}
+use Rattle.hash_ring.proofs.PolicyLemmas.{table-small}
 
 -- the alignment of a table is one that a type may have
 pub table-align : (k v ka va : ℕ) → IsItemLayout k ka → IsItemLayout v va → IsAlign (table_align ka va)
@@ -24,7 +24,7 @@ table-layout k v ka va slots keys values small small' few =
     let align = table-align k v ka va keys values in
     let bounds = IsAlign-bounds (table_align ka va) align in
     let near = up-is (slots * slot_size k v) (table_align ka va) align in
-    let size = table-fits k v slots small small' few in
+    let size = table-small k v slots small small' few in
     let plain = row_is_layout 0 0 (table_align ka va) (record {
       is_align = align;
       whole = zero-mod (table_align ka va);

@@ -8,7 +8,6 @@ use Rattle.hash_ring.proofs.Homes.{home-less}
 use Rattle.hash_ring.proofs.Order.{away-of}
 use Rattle.hash_ring.proofs.RingLemmas.{next-spot}
 use Rattle.hash_ring.proofs.Settle.{Settling, settling-start, settling-less, settling-swap, settling-done}
-use Rattle.hash_ring.proofs.MarkLemmas.{mark-some}
 use Rattle.arena_table.specs.Edits.{SetsSlot}
 use Rattle.arena_table.specs.Tables.{slots_of, IsShape, IsTable}
 use Rattle.arena_table.proofs.SlotLemmas.{slots-long}
@@ -46,7 +45,7 @@ module _ {K V : Type 0} (keys : Ghosts K) (values : Ghosts V) (hash : K × V →
     -- a mark that is carried isn't that of a free slot
     pub putting-marked : (start : ℕ) (from : List ℕ) (first : K × V) (steps : ℕ) (bytes : List ℕ) (x : K × V) (i mark : ℕ)
         → Putting start from first steps bytes x i mark → 0 < mark
-    putting-marked start from first steps bytes x i mark s = omega (arith, mark-some (hash x) s.distance, s.mark_is)
+    putting-marked start from first steps bytes x i mark s = omega (arith, s.mark_is)
 
     module _ (start : ℕ) (from : List ℕ) (first : K × V) (steps : ℕ) (old new : List ℕ) (x : K × V) (i mark : ℕ) (begun : start < n)
         (room : length (items (slots_of keys values n from)) < n) (shape : IsShape keys values n old) (within : i < n)

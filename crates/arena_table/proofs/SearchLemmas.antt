@@ -8,7 +8,6 @@ use Rattle.hash_ring.specs.Slots.{spot, items, Lacks}
 use Rattle.hash_ring.specs.Marks.{home_of, mark_of}
 use Rattle.hash_ring.proofs.Find.{Passed, Stops, passed-more}
 use Rattle.hash_ring.proofs.Homes.{step-place}
-use Rattle.hash_ring.proofs.MarkLemmas.{mark-some}
 use Rattle.hash_ring.proofs.Passing.{AreMarked, marked-passes, marked-stops, marked-spot, marked-less, marked-same, marked-lacks}
 use Rattle.hash_ring.proofs.Passing.{mark-passed-none}
 use Rattle.hash_ring.proofs.RingLemmas.{spot-zero}
@@ -41,7 +40,7 @@ module _ {K V : Type 0} (keys : Ghosts K) (values : Ghosts V) (n : ℕ) (bytes :
     pub seeking-taken : (k at mark : ℕ) → Seeking k at mark → slice_index bytes at ≡ mark
         → (x : K × V) × (slice_get (slots_of keys values n bytes) at ≡ Some (Some x))
     seeking-taken k at mark s is =
-        slot-taken keys values n bytes shape at s.within (omega (arith, is, s.mark_is, mark-some hash k))
+        slot-taken keys values n bytes shape at s.within (omega (arith, is, s.mark_is))
 
     -- a whole round meets a free slot
     pub seeking-less : (k at mark : ℕ) → Seeking k at mark → (h : K × V → ℕ) → IsTable keys values h n bytes
@@ -70,7 +69,7 @@ module _ {K V : Type 0} (keys : Ghosts K) (values : Ghosts V) (n : ℕ) (bytes :
           → Passed n content q (home_of n hash) (slots_of keys values n bytes) k
           → Passed n content q (home_of n hash) (slots_of keys values n bytes) (k + 1)
       seeking-other high h table content q hashed other passed =
-          let y = slot-taken _ _ _ _ shape at s.within (omega (arith, high, mark-some hash k, s.mark_is)) in
+          let y = slot-taken _ _ _ _ shape at s.within (omega (arith, high, s.mark_is)) in
           passed-more _ _ _ _ _ _ y.0 passed (ap (slice_get (slots_of keys values n bytes)) (sym s.place) ∙ y.1)
           (λ same. other (ap (slice_index bytes) s.place ∙ marked-same h n some (slots_of keys values n bytes) (λ i. slice_index bytes i)
           (marked _ table) _ k less y.0 (ap (slice_get (slots_of keys values n bytes)) (sym s.place) ∙ y.1) (hashed y.0 same) ∙ sym

@@ -1,32 +1,19 @@
 -- Maps of lists of pairs that are equal.
 use Rattle.std.proofs.Common.{◌≡◌, ℕ, ◌≤◌, inl, inr, List, [], ◌∷◌, map, length, refl, sym, ap, subst, ◌∙◌, arith, Some, None, Option}
-use Rattle.std.proofs.Common.{Bool, true, false, suc, zero, ◌++◌, append_assoc, ◌⊎◌}
-use Rattle.std.proofs.lemmas.Bool.{both_ways, cases_Bool, cond-true, cond-false, or_parts, or_cases}
-use Rattle.std.proofs.lemmas.Bool.Decides.{same_from_decides}
+use Rattle.std.proofs.Common.{Bool, true, false, true≢false, suc, zero, ◌++◌, append_assoc, ◌⊎◌}
+use Rattle.std.proofs.lemmas.Bool.{both_ways, cases_Bool, or_parts, or_cases}
+use Rattle.std.proofs.lemmas.Cmp.{nat_list_eq_equiv}
 use Rattle.std.proofs.lemmas.List.{length-map}
 use Rattle.std.proofs.lemmas.Map.Made.{length-le_from_is_member}
 use Rattle.std.proofs.lemmas.Map.Keys.{IsDistinct-cons}
 use Rattle.std.proofs.lemmas.Option.{none-some, same_Some}
 use Rattle.std.proofs.lemmas.Slice.Eq.{bytes_eq-Decides}
-use Rattle.std.specs.Cmp.{IsEquivalence}
-use Rattle.std.specs.List.{AllByRecursion}
-use Rattle.std.specs.Prelude.{slice_get, bytes_eq, is_some, ◌||◌}
+use Rattle.std.specs.List.{AllByRecursion, IsDistinct}
+use Rattle.std.specs.Prelude.{slice_get, bytes_eq, is_some}
 use Rattle.std.specs.Set.{is_member}
 use Rattle.hash_ring.specs.Finite.{Finite, AreOnce, first_of, has, value_of}
 use Rattle.hash_ring.specs.Walks.{AreBoth, AreEqual}
 use Rattle.hash_ring.proofs.Under.{option-cases, under-in, in-under}
-
--- the test on contents
-bytes-equivalence : IsEquivalence bytes_eq
-bytes-equivalence = record {
-  refl = λ x. (bytes_eq-Decides x x).1 refl;
-  symm = λ x y. symm x y;
-  congr = λ x y z e. ap (λ w. bytes_eq w z) ((bytes_eq-Decides x y).0 e);
-}
-  where
-    symm : (x y : List ℕ) → bytes_eq x y ≡ bytes_eq y x
-    symm x y = same_from_decides (bytes_eq x y) (bytes_eq y x) (bytes_eq-Decides x y)
-        ((λ e. sym ((bytes_eq-Decides y x).0 e)), (λ e. (bytes_eq-Decides y x).1 (sym e)))
 
 none-member : (ks : List (List ℕ)) (q : List ℕ) → is_member bytes_eq ks q ≡ false → AllByRecursion (λ y. bytes_eq q y ≡ false) ks
 none-member [] q e = tt
@@ -40,87 +27,79 @@ both-has eq None (Some y) b = absurd b
 both-has eq (Some x) None b = absurd b
 both-has eq (Some x) (Some y) b = refl
 
+-- The same of pairs, if the second has what the first has.
+both-from : {K V : Type 0} (eq : V → V → Bool) (one other : Option (K × V))
+    → ((p : K × V) → one ≡ Some p → AreBoth eq (Some p.1) (value_of other)) → (is_some other ≡ true → is_some one ≡ true)
+    → AreBoth eq (value_of one) (value_of other)
+both-from eq None None each only = tt
+both-from eq None (Some y) each only = absurd (true≢false (sym (only refl)))
+both-from eq (Some x) other each only = each x refl
+
 module _ {K V : Type 0} (content : K → List ℕ) where
   -- a content is in the list if the map has it
   has-member : (pairs : List (K × V)) (q : List ℕ) → is_member bytes_eq (map (λ p. content p.0) pairs) q ≡ has (first_of content pairs) q
   has-member [] q = refl
   has-member (p ∷ ps) q = elim (cases_Bool (bytes_eq (content p.0) q)) [
-    | inl t ↦
-        ap (λ b. b || is_member bytes_eq (map (λ p. content p.0) ps) q) (bytes-equivalence.symm q (content p.0) ∙ t)
-        ∙ ap is_some (sym (cond-true (bytes_eq (content p.0) q) (Some p) (first_of content ps q) t))
-    | inr t ↦
-        ap (λ b. b || is_member bytes_eq (map (λ p. content p.0) ps) q) (bytes-equivalence.symm q (content p.0) ∙ t)
-        ∙ (has-member ps q ∙ ap is_some (sym (cond-false (bytes_eq (content p.0) q) (Some p) (first_of content ps q) t)))
+    | inl t ↦ rw (nat_list_eq_equiv.symm q (content p.0), t) refl
+    | inr t ↦ rw (nat_list_eq_equiv.symm q (content p.0), t) (has-member ps q)
   ]
+
+  -- a list that has some contents, none of them twice, is at least as long as they are
+  few : (qs : List (List ℕ)) (pairs : List (K × V)) → IsDistinct bytes_eq qs
+      → ((q : List ℕ) → is_member bytes_eq qs q ≡ true → has (first_of content pairs) q ≡ true) → length qs ≤ length pairs
+  few qs pairs once within =
+      let most = length-le_from_is_member nat_list_eq_equiv qs (map (λ p. content p.0) pairs) once
+      (λ q e. has-member pairs q ∙ within q e) in
+      omega (arith, most, length-map pairs (λ p. content p.0))
 
 -- A list with no content twice, all of whose contents another list has, is at most as long, whatever gives the contents
 -- of each.
-pub few-contents : {K V : Type 0} (one other : K → List ℕ) (xs ys : List (K × V)) → AreOnce one xs
+few-contents : {K V : Type 0} (one other : K → List ℕ) (xs ys : List (K × V)) → AreOnce one xs
     → ((q : List ℕ) → has (first_of one xs) q ≡ true → has (first_of other ys) q ≡ true) → length xs ≤ length ys
 few-contents one other xs ys once within =
-    let l : length (map (λ p. one p.0) xs) ≤ length (map (λ p. other p.0) ys) =
-    length-le_from_is_member bytes-equivalence (map (λ p. one p.0) xs) (map (λ p. other p.0) ys) once
-    (λ q e. has-member other ys q ∙ within q (sym (has-member one xs q) ∙ e)) in
-    omega (arith, l, length-map xs (λ p. one p.0), length-map ys (λ p. other p.0))
+    omega (arith, few other (map (λ p. one p.0) xs) ys once (λ q e. within q (sym (has-member one xs q) ∙ e)), length-map xs (λ p. one p.0))
+
+-- Lists that have the same contents, each once, are as long.
+pub same-length : {K V : Type 0} (one other : K → List ℕ) (xs ys : List (K × V)) → AreOnce one xs → AreOnce other ys
+    → ((q : List ℕ) → has (first_of one xs) q ≡ has (first_of other ys) q) → length xs ≡ length ys
+same-length one other xs ys once once' same =
+    let most = few-contents one other xs ys once (λ q e. sym (same q) ∙ e) in
+    let least = few-contents other one ys xs once' (λ q e. same q ∙ e) in
+    omega arith
 
 module _ {K V : Type 0} (content : K → List ℕ) where
   -- if they are as many, the other list has no more
-  pub no-more-pairs : (xs ys : List (K × V)) → AreOnce content xs → length ys ≤ length xs
+  no-more-pairs : (xs ys : List (K × V)) → AreOnce content xs → length ys ≤ length xs
       → ((q : List ℕ) → has (first_of content xs) q ≡ true → has (first_of content ys) q ≡ true)
       → (q : List ℕ) → has (first_of content ys) q ≡ true → has (first_of content xs) q ≡ true
-  no-more-pairs xs ys once few within q e = elim (cases_Bool (has (first_of content xs) q)) [
+  no-more-pairs xs ys once most within q e = elim (cases_Bool (has (first_of content xs) q)) [
     | inl t ↦ t
     | inr t ↦
-        let none : is_member bytes_eq (map (λ p. content p.0) xs) q ≡ false = has-member content xs q ∙ t in
-        let l : length (q ∷ map (λ p. content p.0) xs) ≤ length (map (λ p. content p.0) ys) =
-        length-le_from_is_member bytes-equivalence (q ∷ map (λ p. content p.0) xs) (map (λ p. content p.0) ys)
-        (IsDistinct-cons bytes_eq q (map (λ p. content p.0) xs) (none-member (map (λ p. content p.0) xs) q none) once)
-        (λ r m. elim (or_cases (bytes_eq r q) (is_member bytes_eq (map (λ p. content p.0) xs) r) m) [
-          | inl s ↦ has-member content ys r ∙ (ap (has (first_of content ys)) ((bytes_eq-Decides r q).0 s) ∙ e)
-          | inr s ↦ has-member content ys r ∙ within r (sym (has-member content xs r) ∙ s)
+        let qs : List (List ℕ) = map (λ p. content p.0) xs in
+        let more = few content (q ∷ qs) ys (IsDistinct-cons bytes_eq q qs (none-member qs q (has-member content xs q ∙ t)) once)
+        (λ r m. elim (or_cases (bytes_eq r q) (is_member bytes_eq qs r) m) [
+          | inl s ↦ ap (has (first_of content ys)) ((bytes_eq-Decides r q).0 s) ∙ e
+          | inr s ↦ within r (sym (has-member content xs r) ∙ s)
         ]) in
-        absurd (omega (arith, l, few, length-map xs (λ p. content p.0), length-map ys (λ p. content p.0)))
+        absurd (omega (arith, more, most, length-map xs (λ p. content p.0)))
   ]
 
-  module _ (eq : V → V → Bool) (xs ys : List (K × V)) where
-    -- equal maps have as many pairs
-    pub equal-length : AreOnce content xs → AreOnce content ys → AreEqual {K = K} eq (first_of content xs) (first_of content ys)
-        → length xs ≡ length ys
-    equal-length one other equal =
-        let l : length xs ≤ length ys =
-        few-contents content content xs ys one (λ q e. sym (both-has eq (first_of content xs q) (first_of content ys q) (equal q)) ∙ e) in
-        let m : length ys ≤ length xs =
-        few-contents content content ys xs other (λ q e. both-has eq (first_of content xs q) (first_of content ys q) (equal q) ∙ e) in
-        omega arith
+  -- Maps with as many pairs are equal if each pair of one list has its content in the other, with an equal value.
+  pub equal-found : (eq : V → V → Bool) (xs ys : List (K × V)) → AreOnce content xs → length ys ≤ length xs
+      → ((i : ℕ) (p : K × V) → slice_get xs i ≡ Some p → AreBoth eq (Some p.1) (value_of (first_of content ys (content p.0))))
+      → AreEqual {K = K} eq (first_of content xs) (first_of content ys)
+  equal-found eq xs ys once few found q = both-from eq _ _ (there q) (no-more-pairs xs ys once few within q)
+    where
+      there : (q : List ℕ) (p : K × V) → first_of content xs q ≡ Some p → AreBoth eq (Some p.1) (value_of (first_of content ys q))
+      there q p e =
+          let i = under-in content xs q p e in
+          subst (λ r. AreBoth eq (Some p.1) (value_of (first_of content ys r))) i.2 (found i.0 p i.1)
 
-    -- Maps with as many pairs are equal if each pair of one list has its content in the other, with an equal value.
-    pub equal-found : AreOnce content xs → length ys ≤ length xs
-        → ((i : ℕ) (p : K × V) → slice_get xs i ≡ Some p → AreBoth eq (Some p.1) (value_of (first_of content ys (content p.0))))
-        → AreEqual {K = K} eq (first_of content xs) (first_of content ys)
-    equal-found once few found q = elim (option-cases (first_of content xs q)) [
-      | inr r ↦ there q r.0 r.1
-      | inl e ↦ elim (option-cases (first_of content ys q)) [
-        | inl f ↦
-            subst (λ o. AreBoth eq (value_of (first_of content xs q)) (value_of o)) (sym f)
-            (subst (λ o. AreBoth eq (value_of o) None) (sym e) tt)
-        | inr r ↦
-            let more : has (first_of content xs) q ≡ true = no-more-pairs xs ys once few within q (ap is_some r.1) in
-            absurd (both_ways (has (first_of content xs) q) (ap is_some e) more)
+      within : (q : List ℕ) → has (first_of content xs) q ≡ true → has (first_of content ys) q ≡ true
+      within q e = elim (option-cases (first_of content xs q)) [
+        | inl n ↦ absurd (both_ways (has (first_of content xs) q) (ap is_some n) e)
+        | inr r ↦ sym (both-has eq (Some r.0) (first_of content ys q) (there q r.0 r.1))
       ]
-    ]
-      where
-        there : (q : List ℕ) (p : K × V) → first_of content xs q ≡ Some p
-            → AreBoth eq (value_of (first_of content xs q)) (value_of (first_of content ys q))
-        there q p e =
-            let i = under-in content xs q p e in
-            subst (λ o. AreBoth eq (value_of o) (value_of (first_of content ys q))) (sym e)
-            (subst (λ r. AreBoth eq (Some p.1) (value_of (first_of content ys r))) i.2 (found i.0 p i.1))
-
-        within : (q : List ℕ) → has (first_of content xs) q ≡ true → has (first_of content ys) q ≡ true
-        within q e = elim (option-cases (first_of content xs q)) [
-          | inl n ↦ absurd (both_ways (has (first_of content xs) q) (ap is_some n) e)
-          | inr r ↦ sym (both-has eq (first_of content xs q) (first_of content ys q) (there q r.0 r.1)) ∙ e
-        ]
 
 -- ---- A search for each pair of a list in another map
 
@@ -164,11 +143,3 @@ module _ {K V : Type 0} (content : K → List ℕ) (eq : V → V → Bool) (m : 
       → AreBoth eq (Some p.1) (value_of (m (content p.0)))
   found-equal once equal i p s =
       subst (λ o. AreBoth eq (value_of o) (value_of (m (content p.0)))) (in-under content xs i p once s) (equal (content p.0))
-
--- lists of one map are as long
-pub same-length : {K V : Type 0} (content : K → List ℕ) (xs ys : List (K × V)) → AreOnce content xs → AreOnce content ys
-    → first_of content xs ≡ first_of content ys → length xs ≡ length ys
-same-length content xs ys one other same =
-    let l : length xs ≤ length ys = few-contents content content xs ys one (λ q e. ap (λ m. has m q) (sym same) ∙ e) in
-    let k : length ys ≤ length xs = few-contents content content ys xs other (λ q e. ap (λ m. has m q) same ∙ e) in
-    omega arith

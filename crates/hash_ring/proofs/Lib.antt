@@ -15,7 +15,6 @@ pub mod Equal
 pub mod Homes
 pub mod Passing
 pub mod Lanes
-pub mod MarkLemmas
 pub mod Scanning
 pub mod FarLemmas
 pub mod WordLemmas

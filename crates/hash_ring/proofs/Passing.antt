@@ -7,7 +7,6 @@ use Rattle.hash_ring.specs.Searches.{IsPassed, IsSpotFor}
 use Rattle.hash_ring.specs.Slots.{spot, items, Lacks, IsAway, IsBehind, IsOrdered}
 use Rattle.hash_ring.specs.Marks.{home_of, mark_of}
 use Rattle.hash_ring.proofs.Find.{AreTaken, Passed, IsReached, Stops, taken-less, passed-lacks, place-for, away-start}
-use Rattle.hash_ring.proofs.MarkLemmas.{far-away, near-by}
 use Rattle.hash_ring.proofs.Order.{away-of}
 use Rattle.hash_ring.proofs.Places.{slot-cases, not_free}
 use Rattle.hash_ring.proofs.RingLemmas.{below-next, spot-less}
@@ -114,10 +113,10 @@ module _ {X : Type 0} (hash : X → ℕ) (n : ℕ) (some : 0 < n) (slots : List 
         distance = d;
         mark_is = refl;
         near = λ m.
-            let few : d < 14 = near-by h d m in
+            let few : d < 14 = omega arith in
             place-for (λ x. home_of n (hash x)) n homes (home_of n h) slots d less
             (mark-passed-reached (λ x. home_of n (hash x)) n (home_of n h) slots d (omega arith) p) stop;
-        far = λ m. mark-passed-fewer (λ x. home_of n (hash x)) n (home_of n h) slots d 14 (far-away h d m) p;
+        far = λ m. mark-passed-fewer (λ x. home_of n (hash x)) n (home_of n h) slots d 14 (omega arith) p;
       }
 
       -- an item with the hash has that mark there

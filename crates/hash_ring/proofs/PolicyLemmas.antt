@@ -69,9 +69,6 @@ unit-covers k v ka va = omega arith
 pub table-small : (k v slots : ℕ) → k ≤ 2 ^ 24 → v ≤ 2 ^ 24 → slots ≤ 2 ^ 33 → slots * slot_size k v ≤ 2 ^ 60
 table-small k v slots small small' few = grind arith
 
-pub table-fits : (k v slots : ℕ) → k ≤ 2 ^ 24 → v ≤ 2 ^ 24 → slots ≤ 2 ^ 33 → slots * slot_size k v ≤ 2 ^ 62
-table-fits k v slots small small' few = omega (arith, table-small k v slots small small' few)
-
 -- a block has at least the bytes of the pairs
 pub table-holds : (k v slots len : ℕ) → len ≤ limit slots → (k + v) * len ≤ slots * slot_size k v
 table-holds k v slots len within = grind arith
@@ -79,24 +76,18 @@ table-holds k v slots len within = grind arith
 module _ (size pad u : ℕ) (covers : 8 * size + pad ≤ u) where
   -- this many times eight slots, and the padding of a block
   eights : (m : ℕ) → 8 * m * size + pad ≤ u * m + u
-  eights m =
-      let a : m * (8 * size) ≤ m * u = mul-le-mul_left m (let le : 8 * size ≤ u = omega arith in le) in
-      let b : m * (8 * size) ≡ 8 * m * size = omega arith in
-      omega (arith, a, b, mul_comm m u)
+  eights m = let le : 8 * size ≤ u = omega arith in omega (arith, mul-le-mul_left m le, mul_comm m u)
 
   -- the table for n pairs
   pub capacity-bytes : (pairs slots : ℕ) → 0 < pairs → IsSlotsFor pairs slots → slots * size + pad ≤ u * pairs
   capacity-bytes pairs slots some is = elim (cases_lt 4 pairs) [
     | inl many ↦ (
-        let a : slots * size ≤ 4 * pairs * size = mul-le-mul_right size (let le : slots ≤ 4 * pairs = omega (arith, is.2) in le) in
-        let b : 2 * (4 * pairs * size) ≡ 8 * pairs * size = omega arith in
-        let c : u * 2 ≤ u * pairs = mul-le-mul_left u (let le : 2 ≤ pairs = omega arith in le) in
-        omega (arith, a, b, c, eights pairs))
+        let le : slots ≤ 4 * pairs = omega (arith, is.2) in
+        let two : 2 ≤ pairs = omega arith in
+        omega (arith, mul-le-mul_right size le, mul-le-mul_left u two, eights pairs))
     | inr few ↦ (
         let eight : slots ≤ 2 ^ 3 = power-below slots 3 is.0 (omega (arith, is.2)) in
-        let a : slots * size ≤ 8 * size = mul-le-mul_right size eight in
-        let c : u * 1 ≤ u * pairs = mul-le-mul_left u some in
-        omega (arith, a, c, covers))
+        omega (arith, mul-le-mul_right size eight, mul-le-mul_left u some, covers))
   ]
 
   -- the next table: its bytes, its padding and what is saved up afterwards
@@ -128,11 +119,8 @@ module _ (size pad u : ℕ) (covers : 8 * size + pad ≤ u) where
 -- a new key in a table with room
 pub credit-rises : (u slots len : ℕ) → credit u slots (len + 1) ≤ credit u slots len + u
 credit-rises u slots len =
-    let a : u * (len + 1 - (slots / 4 + 1)) ≤ u * (len - (slots / 4 + 1) + 1) = mul-le-mul_left u (one_more len (slots / 4 + 1)) in
-    omega (arith, a)
-  where
-    one_more : (a b : ℕ) → a + 1 - b ≤ a - b + 1
-    one_more a b = omega arith
+    let more : len + 1 - (slots / 4 + 1) ≤ len - (slots / 4 + 1) + 1 = omega arith in
+    omega (arith, mul-le-mul_left u more)
 
 -- fewer pairs have no more saved up
 pub credit-falls : (u slots a b : ℕ) → a ≤ b → credit u slots a ≤ credit u slots b
@@ -146,6 +134,4 @@ credit-none u slots = grind arith
 pub full-credit : (u pairs slots : ℕ) → IsSlotsFor pairs slots → 2 * credit u slots pairs ≤ u * pairs
 full-credit u pairs slots is =
     let past : 2 * (pairs - (slots / 4 + 1)) ≤ pairs = omega (arith, is.1) in
-    let a : u * (2 * (pairs - (slots / 4 + 1))) ≤ u * pairs = mul-le-mul_left u past in
-    let b : 2 * (u * (pairs - (slots / 4 + 1))) ≡ u * (2 * (pairs - (slots / 4 + 1))) = omega arith in
-    omega (arith, a, b)
+    omega (arith, mul-le-mul_left u past)

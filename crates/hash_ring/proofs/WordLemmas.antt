@@ -1,22 +1,12 @@
 -- Contents compared by words.
-use Rattle.std.proofs.Common.{◌≡◌, ◌+◌, ◌-◌, ◌*◌, ◌<◌, ◌≤◌, ◌++◌, ℕ, zero, suc, List, [], ◌∷◌, length, take, drop, get_or, sym, ap, ap₂, ◌∙◌, arith}
-use Rattle.std.specs.Int.{w32, w64, to_le_bytes, from_le_bytes}
-use Rattle.std.proofs.lemmas.List.{drop-drop, take-append-drop, get_or-drop, length-take-le, length-drop}
+use Rattle.std.proofs.Common.{◌≡◌, ◌↔◌, ◌+◌, ◌-◌, ◌*◌, ◌<◌, ◌≤◌, ◌++◌, ℕ, zero, suc, List, [], ◌∷◌, length, take, drop, get_or, sym, ap, ap₂, ◌∙◌}
+use Rattle.std.proofs.Common.{IsTrue, arith, nat_eq}
+use Rattle.std.proofs.lemmas.Bool.Decides.{nat_tests}
+use Rattle.std.proofs.lemmas.List.{drop-drop, take-append-drop, take_rest, get_or-drop, length-take-le, length-drop}
 use Rattle.std.proofs.lemmas.Nat.{le_bytes_4, le_bytes_8}
 
--- bytes with the same number are equal
-pub same-half : (xs ys : List ℕ) (m n : ℕ) → length xs ≡ 4 → length ys ≡ 4 → ((i : ℕ) → get_or xs i 0 < 256)
-    → ((i : ℕ) → get_or ys i 0 < 256)
-    → m ≡ from_le_bytes w32 xs → n ≡ from_le_bytes w32 ys → m ≡ n → xs ≡ ys
-same-half xs ys m n long other b c is too e = sym (le_bytes_4 xs m long b is) ∙ ap (to_le_bytes w32) e ∙ le_bytes_4 ys n other c too
-
-pub same-word : (xs ys : List ℕ) (m n : ℕ) → length xs ≡ 8 → length ys ≡ 8 → ((i : ℕ) → get_or xs i 0 < 256)
-    → ((i : ℕ) → get_or ys i 0 < 256)
-    → m ≡ from_le_bytes w64 xs → n ≡ from_le_bytes w64 ys → m ≡ n → xs ≡ ys
-same-word xs ys m n long other b c is too e = sym (le_bytes_8 xs m long b is) ∙ ap (to_le_bytes w64) e ∙ le_bytes_8 ys n other c too
-
 -- two lists of equal length, at most 2 * k, are equal if their first k and their last k are
-pub overlap : (xs ys : List ℕ) (k : ℕ) → length xs ≡ length ys → k ≤ length xs → length xs ≤ 2 * k → take k xs ≡ take k ys
+overlap : (xs ys : List ℕ) (k : ℕ) → length xs ≡ length ys → k ≤ length xs → length xs ≤ 2 * k → take k xs ≡ take k ys
     → drop (length xs - k) xs ≡ drop (length xs - k) ys → xs ≡ ys
 overlap xs ys k e least most first last =
     let n : ℕ = length xs in
@@ -27,43 +17,35 @@ overlap xs ys k e least most first last =
     sym (take-append-drop k xs) ∙ ap₂ (λ a b. a ++ b) first rest ∙ take-append-drop k ys
 
 -- parts of bytes are bytes
-pub bytes-drop : (xs : List ℕ) (k : ℕ) → ((i : ℕ) → get_or xs i 0 < 256) → (i : ℕ) → get_or (drop k xs) i 0 < 256
-bytes-drop xs k small i = rw (get_or-drop k xs i 0) (small (k + i))
+abbrev AreBytes : List ℕ → Type 0
+AreBytes xs = (i : ℕ) → get_or xs i 0 < 256
 
-pub bytes-take : (xs : List ℕ) (k : ℕ) → ((i : ℕ) → get_or xs i 0 < 256) → (i : ℕ) → get_or (take k xs) i 0 < 256
+bytes-take : (xs : List ℕ) (k : ℕ) → AreBytes xs → AreBytes (take k xs)
 bytes-take xs zero small i = omega arith
 bytes-take [] (suc k) small i = small i
 bytes-take (x ∷ xs) (suc k) small zero = small 0
 bytes-take (x ∷ xs) (suc k) small (suc i) = bytes-take xs k (λ j. small (suc j)) i
 
--- bytes are equal if the numbers of their first and of their last bytes are
-pub same-halves : (xs ys : List ℕ) (a b c d : ℕ) → length xs ≡ length ys → 4 ≤ length xs → length xs ≤ 8
-    → ((i : ℕ) → get_or xs i 0 < 256) → ((i : ℕ) → get_or ys i 0 < 256)
-    → a ≡ from_le_bytes w32 (take 4 xs) → b ≡ from_le_bytes w32 (take 4 ys)
-    → c ≡ from_le_bytes w32 (drop (length xs - 4) xs) → d ≡ from_le_bytes w32 (drop (length xs - 4) ys)
-    → a ≡ b → c ≡ d → xs ≡ ys
-same-halves xs ys a b c d e least most small other a_is b_is c_is d_is ab cd =
-    overlap xs ys 4 e least most
-    (same-half (take 4 xs) (take 4 ys) a b (length-take-le 4 xs least) (length-take-le 4 ys (omega arith)) (bytes-take xs 4 small)
-    (bytes-take ys 4 other) a_is b_is ab)
-    (same-half (drop (length xs - 4) xs) (drop (length xs - 4) ys) c d
-    (length-drop (length xs - 4) xs ∙ (let m : length xs - (length xs - 4) ≡ 4 = omega arith in m))
-    (length-drop (length xs - 4) ys ∙ (let m : length ys - (length xs - 4) ≡ 4 = omega arith in m))
-    (bytes-drop xs (length xs - 4) small) (bytes-drop ys (length xs - 4) other) c_is d_is cd)
-
-pub same-words : (xs ys : List ℕ) (a b c d : ℕ) → length xs ≡ length ys → 8 ≤ length xs → length xs ≤ 16
-    → ((i : ℕ) → get_or xs i 0 < 256) → ((i : ℕ) → get_or ys i 0 < 256)
-    → a ≡ from_le_bytes w64 (take 8 xs) → b ≡ from_le_bytes w64 (take 8 ys)
-    → c ≡ from_le_bytes w64 (drop (length xs - 8) xs) → d ≡ from_le_bytes w64 (drop (length xs - 8) ys)
-    → a ≡ b → c ≡ d → xs ≡ ys
-same-words xs ys a b c d e least most small other a_is b_is c_is d_is ab cd =
-    overlap xs ys 8 e least most
-    (same-word (take 8 xs) (take 8 ys) a b (length-take-le 8 xs least) (length-take-le 8 ys (omega arith)) (bytes-take xs 8 small)
-    (bytes-take ys 8 other) a_is b_is ab)
-    (same-word (drop (length xs - 8) xs) (drop (length xs - 8) ys) c d
-    (length-drop (length xs - 8) xs ∙ (let m : length xs - (length xs - 8) ≡ 8 = omega arith in m))
-    (length-drop (length xs - 8) ys ∙ (let m : length ys - (length xs - 8) ≡ 8 = omega arith in m))
-    (bytes-drop xs (length xs - 8) small) (bytes-drop ys (length xs - 8) other) c_is d_is cd)
+-- Bytes of k to 2 * k are equal if the words of k bytes at their starts and at their ends are.
+pub same-ends : (k : ℕ) (word : List ℕ → ℕ) (bytes : ℕ → List ℕ)
+    → ((xs : List ℕ) (n : ℕ) → length xs ≡ k → AreBytes xs → n ≡ word xs → bytes n ≡ xs)
+    → (xs ys : List ℕ) (a b c d : ℕ) → length xs ≡ length ys → k ≤ length xs → length xs ≤ 2 * k → AreBytes xs → AreBytes ys
+    → a ≡ word (take k xs) → b ≡ word (take k ys) → a ≡ b
+    → c ≡ word (take (length xs - (length xs - k)) (drop (length xs - k) xs))
+    → d ≡ word (take (length ys - (length xs - k)) (drop (length xs - k) ys)) → IsTrue (nat_eq c d) ↔ (xs ≡ ys)
+same-ends k word bytes back xs ys a b c d e least most small other a_is b_is ab c_is d_is =
+    let last : ℕ = length xs - k in
+    let c_is' : c ≡ word (drop last xs) = c_is ∙ ap word (take_rest xs last) in
+    let d_is' : d ≡ word (drop last ys) = d_is ∙ ap word (take_rest ys last) in
+    let first : take k xs ≡ take k ys =
+    sym (back (take k xs) a (length-take-le k xs least) (bytes-take xs k small) a_is) ∙ ap bytes ab
+    ∙ back (take k ys) b (length-take-le k ys (omega arith)) (bytes-take ys k other) b_is in
+    let ends : c ≡ d → drop last xs ≡ drop last ys = λ cd.
+    sym (back (drop last xs) c (omega (arith, length-drop last xs)) (λ i. rw (get_or-drop last xs i 0) (small (last + i))) c_is') ∙ ap bytes cd
+    ∙ back (drop last ys) d (omega (arith, length-drop last ys)) (λ i. rw (get_or-drop last ys i 0) (other (last + i))) d_is' in (
+      λ t. overlap xs ys k e least most first (ends (grind (arith, nat_tests))),
+      λ h. let same : c ≡ d = c_is' ∙ ap (λ zs. word (drop last zs)) h ∙ sym d_is' in grind (arith, nat_tests),
+    )
 
 -- for automatic proof
-pub ruleset word_laws = (same-half, same-word)
+pub ruleset word_laws = (le_bytes_4, le_bytes_8)

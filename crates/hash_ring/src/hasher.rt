@@ -134,6 +134,7 @@ impl KeyHasher for FxHasher {
         true
     }
 
+    #[tactic(auto, using(std::proofs::lemmas::Bool::Decides::nat_tests), unfolding(crate::specs::Fx::fx_of))]
     #[inline]
     fn hash(&self, content: &[u8]) -> u64 {
         let n = content.len();

@@ -1,8 +1,7 @@
-use Rattle.std.proofs.Common.{◌<◌, subst, arith}
+use Rattle.std.proofs.Common.{◌<◌, arith}
 use Rattle.std.proofs.lemmas.Bool.Decides.{nat_tests}
 use Rattle.std.specs.Prelude.{slice_index}
 use Rattle.arena_items.specs.Values.{bytes_of}
-use Rattle.hash_ring.proofs.MarkLemmas.{near-by}
 use Rattle.hash_ring.proofs.Order.{away-by, away-same}
 use Rattle.arena_table.proofs.HandleLemmas.{handle-shape, held-homes, held-taken, in-marked}
 use Rattle.arena_table.proofs.far.is_behind.Goals as goal
@@ -19,7 +18,7 @@ returns-then-read-at-lt-FAR-clause-nearer g c = λ is y e away.
     let are = in-marked _ _ _ _ c.requires.keys_small c.requires.values_small some c.requires.held in
     let less : slice_index (bytes_of c.args.a.now.memory c.args.table.block) c.args.at < 240 =
     rw c.read.ensures at c.if-read-at-lt-FAR.true in
-    omega (arith, c.requires.far, near-by _ e (subst (λ w. w < 240) (are.marks c.args.at e y away) less))
+    omega (arith, c.requires.far, are.marks c.args.at e y away, less)
 
 pub hash_at-requires-clause-taken : goal.hash_at-requires-clause-taken
 hash_at-requires-clause-taken g c =

@@ -1,6 +1,5 @@
-use Rattle.std.proofs.Common.{◌≡◌, ◌-◌, ◌<◌, ap, subst, ◌∙◌, arith}
+use Rattle.std.proofs.Common.{◌≡◌, ◌-◌, ◌<◌, ap, ◌∙◌, arith}
 use Rattle.hash_ring.specs.Marks.{mark_of}
-use Rattle.hash_ring.proofs.MarkLemmas.{mark-back}
 use Rattle.arena_table.proofs.EditedLemmas.{back-away, back-distance}
 use Rattle.arena_table.proofs.HandleLemmas.{held-taken}
 use Rattle.arena_table.proofs.rehash.mark_back.Goals as goal
@@ -8,7 +7,7 @@ use Rattle.arena_table.proofs.rehash.mark_back.Goals as goal
 pub returns-then-mark-lt-FAR : goal.returns-then-mark-lt-FAR
 returns-then-mark-lt-FAR g c = λ x there.
     let back = back-away _ _ _ _ c.requires.held (omega (arith, c.requires.index)) c.args.from _ c.requires.mark c.requires.away x there in
-    (back.0, back.1, ap (λ w. w - 16) back.2 ∙ mark-back _ back.0 (subst (λ w. w < 240) back.2 c.if-mark-lt-FAR.true))
+    (back.0, back.1, omega (arith, back.2))
 
 pub hash_at-hash-requires-clause-taken : goal.hash_at-hash-requires-clause-taken
 hash_at-hash-requires-clause-taken g c =
