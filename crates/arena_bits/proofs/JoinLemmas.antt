@@ -1,5 +1,5 @@
 -- Sets that are joined, word by word.
-use Rattle.std.proofs.Common.{◌≡◌, ℕ, ◌+◌, ◌-◌, ◌*◌, ◌/◌, ◌%◌, ◌<◌, ◌≤◌, List, [], ◌∷◌, length, take, drop, Bool, true, false, eqb, get_or, set, max, ap, ◌∙◌, sym, arith, refl, inl, inr}
+use Rattle.std.proofs.Common.{◌≡◌, ℕ, ◌+◌, ◌-◌, ◌*◌, ◌/◌, ◌%◌, ◌<◌, ◌≤◌, ◌⊎◌, List, [], ◌∷◌, length, take, drop, Bool, true, false, eqb, get_or, set, max, ap, ◌∙◌, sym, arith, refl, inl, inr}
 use Rattle.std.specs.Prelude.{bit_or, nat_lt, nat_le, ◌||◌, ◌&&◌}
 use Rattle.std.specs.Int.{from_le_bytes, w64}
 use Rattle.std.proofs.lemmas.Bool.{cases_lt}
@@ -84,67 +84,29 @@ row_bit : (m from to a b : ℕ) → from ≤ m → m < to → a < 2 → b < 2
     → eqb (max a b) 1 ≡ (eqb a 1 || (nat_le from m && (nat_lt m to && eqb b 1)))
 row_bit m from to a b least small low low' = grind (arith, nat_tests)
 
-before_bit : (m from to : ℕ) (a b : Bool) → m < from → a ≡ (a || (nat_le from m && (nat_lt m to && b)))
-before_bit m from to a b small = grind (arith, nat_tests)
-
-behind_bit : (m from to : ℕ) (a b : Bool) → to ≤ m → a ≡ (a || (nat_le from m && (nat_lt m to && b)))
-behind_bit m from to a b least = grind (arith, nat_tests)
+other_bit : (m from to : ℕ) (a b : Bool) → (m < from) ⊎ (to ≤ m) → a ≡ (a || (nat_le from m && (nat_lt m to && b)))
+other_bit m from to a b out = grind (arith, nat_tests)
 
 -- The bits of words are joined where the words were.
 joins_bits : (from to : ℕ) (old others new : List ℕ) → JoinsWords from to old others new → (n : ℕ)
     → bits_of new n ≡ (bits_of old n || (nat_le from (n / 64) && (nat_lt (n / 64) to && bits_of others n)))
 unfolding bits_of
 joins_bits from to old others new joins n = elim (cases_lt (n / 64) from) [
-  | inl front ↦ rw (joins.before (n / 64) front) (before_bit (n / 64) from to (bits_of old n) (bits_of others n) front)
+  | inl front ↦ rw (joins.before (n / 64) front) (other_bit (n / 64) from to _ _ (inl front))
   | inr least ↦ elim (cases_lt (n / 64) to) [
     | inl small ↦
         let mine = get_or old (n / 64) 0 in
         let theirs = get_or others (n / 64) 0 in
         rw (joins.joined (n / 64) least small, bit_at_or mine theirs (n % 64))
         (row_bit (n / 64) from to _ _ least small (bit_at-lt mine (n % 64)) (bit_at-lt theirs (n % 64)))
-    | inr rest ↦ rw (joins.behind (n / 64) rest) (behind_bit (n / 64) from to (bits_of old n) (bits_of others n) rest)
+    | inr rest ↦ rw (joins.behind (n / 64) rest) (other_bit (n / 64) from to _ _ (inr rest))
   ]
 ]
-
--- what is joined twice is joined once
-once : (a b c d : Bool) → ((a || b) || (c && (d && b))) ≡ (a || b)
-once true b c d = refl
-once false true c d = refl
-once false false false d = refl
-once false false true false = refl
-once false false true true = refl
 
 -- If the words below an index were joined, and then a row that starts there or before, those below its end are.
 more_bits : (i from to n : ℕ) (a b : Bool) → from ≤ i → i ≤ to
     → ((a || (nat_lt n (64 * i) && b)) || (nat_le from (n / 64) && (nat_lt (n / 64) to && b))) ≡ (a || (nat_lt n (64 * to) && b))
-more_bits i from to n a b order more = elim (cases_lt n (64 * i)) [
-  | inl front ↦
-      let low : nat_lt n (64 * i) ≡ true = grind (arith, nat_tests) in
-      let below_to : nat_lt n (64 * to) ≡ true = grind (arith, nat_tests) in
-      rw (low, below_to) (once a b (nat_le from (n / 64)) (nat_lt (n / 64) to))
-  | inr rest ↦
-      let high : nat_lt n (64 * i) ≡ false = grind (arith, nat_tests) in
-      elim (cases_lt n (64 * to)) [
-        | inl small ↦
-            let below_to : nat_lt n (64 * to) ≡ true = grind (arith, nat_tests) in
-            let first : nat_le from (n / 64) ≡ true = grind (arith, nat_tests) in
-            let last : nat_lt (n / 64) to ≡ true = grind (arith, nat_tests) in
-            rw (high, below_to, first, last) (middle a b)
-        | inr behind ↦
-            let above : nat_lt n (64 * to) ≡ false = grind (arith, nat_tests) in
-            let past : nat_lt (n / 64) to ≡ false = grind (arith, nat_tests) in
-            rw (high, above, past) (outside a (nat_le from (n / 64)))
-      ]
-]
-  where
-    middle : (a b : Bool) → ((a || (false && b)) || (true && (true && b))) ≡ (a || (true && b))
-    middle true b = refl
-    middle false b = refl
-
-    outside : (a c : Bool) → ((a || false) || (c && false)) ≡ (a || false)
-    outside true c = refl
-    outside false false = refl
-    outside false true = refl
+more_bits i from to n a b order more = grind (arith, nat_tests)
 
 -- ---- Rows
 
@@ -199,10 +161,8 @@ joining_none old s other held other_held = record {
     none_there n a b = grind (arith, nat_tests)
 
 -- Nor is anything if both are one set: all of its numbers are there.
-all_there : (is_in low : Bool) → is_in ≡ (is_in || (low && is_in))
-all_there true low = refl
-all_there false true = refl
-all_there false false = refl
+all_there : (n limit : ℕ) (is_in : Bool) → is_in ≡ (is_in || (nat_lt n limit && is_in))
+all_there n limit is_in = grind (arith, nat_tests)
 
 pub joined_itself : (view : View) (s other : BitSet) (limit : ℕ) → IsSetIn view.memory s → IsSetIn view.memory other
     → other.words.block ≡ s.words.block → BecomesSet view view s (joined (set_of view.memory s) (below limit (set_of view.memory other)))
@@ -211,7 +171,7 @@ joined_itself view s other limit held other_held one =
     let count : other.words.length ≡ s.words.length = omega (arith, held.place.of_size, other_held.place.of_size, ap (λ b. b.size) one) in
     let same : set_of m other ≡ set_of m s = ap (λ b. bits_of (words other.words.length (bytes_of m b))) one
     ∙ ap (λ n. bits_of (words n (bytes_of m s.words.block))) count in
-    let is : set_of m s ≡ joined (set_of m s) (below limit (set_of m s)) = λ p n. all_there (set_of m s n) (nat_lt n limit) p in
+    let is : set_of m s ≡ joined (set_of m s) (below limit (set_of m s)) = λ p n. all_there n limit (set_of m s n) p in
     record {
       held = held;
       set_is = is ∙ ap (λ set. joined (set_of m s) (below limit set)) (sym same);

@@ -7,7 +7,7 @@ use Rattle.hash_ring.specs.Searches.{IsPassed, IsSpotFor}
 use Rattle.hash_ring.specs.Slots.{spot, items, Lacks, IsAway, IsBehind, IsOrdered}
 use Rattle.hash_ring.specs.Marks.{home_of, mark_of}
 use Rattle.hash_ring.proofs.Find.{AreTaken, Passed, IsReached, Stops, taken-less, passed-lacks, place-for, away-start}
-use Rattle.hash_ring.proofs.Order.{away-of}
+use Rattle.hash_ring.proofs.Order.{away-of, behind-by}
 use Rattle.hash_ring.proofs.Places.{slot-cases, not_free}
 use Rattle.hash_ring.proofs.RingLemmas.{below-next, spot-less}
 
@@ -42,8 +42,7 @@ module _ {X : Type 0} (home : X → ℕ) (n start : ℕ) (slots : List (Option X
     behind = λ f l. elim (below-next f d l) [
       | inl i ↦ p.behind f i
       | inr i ↦
-          let b : IsBehind home n slots (spot n start d) (min d 14) = record { item = y; distance = e; away = a; far = h } in
-          subst (λ m. IsBehind home n slots (spot n start m) (min m 14)) (sym i) b
+          subst (λ m. IsBehind home n slots (spot n start m) (min m 14)) (sym i) (behind-by home n (min d 14) a h)
     ];
   }
 
@@ -63,25 +62,25 @@ module _ {X : Type 0} (home : X → ℕ) (n start : ℕ) (slots : List (Option X
 
 -- Slots with a mark for each: 0 if it is free, and otherwise by the hash of its item and its distance.
 module _ {X : Type 0} (hash : X → ℕ) (n : ℕ) (some : 0 < n) (slots : List (Option X)) (mark : ℕ → ℕ) where
-  home : X → ℕ
+  abbrev home : X → ℕ
   home x = home_of n (hash x)
 
   homes : (x : X) → home_of n (hash x) < n
   homes x = mod-lt (hash x) some
 
   pub record AreMarked : Type 0 where
-    pub ordered : IsOrdered (λ x. home_of n (hash x)) n slots
+    pub ordered : IsOrdered home n slots
     pub free : (i : ℕ) → slice_get slots i ≡ Some None → mark i ≡ 0
-    pub marks : (i d : ℕ) (x : X) → IsAway (λ x. home_of n (hash x)) n slots i x d → mark i ≡ mark_of (hash x) d
+    pub marks : (i d : ℕ) (x : X) → IsAway home n slots i x d → mark i ≡ mark_of (hash x) d
 
   module _ (are : AreMarked) where
     -- a slot is free, or holds an item at some distance from its home, with its mark
     pub marked-cases : (i : ℕ) → i < n → ((slice_get slots i ≡ Some None) × (mark i ≡ 0))
-        ⊎ ((x : X) × (d : ℕ) × IsAway (λ x. home_of n (hash x)) n slots i x d × (mark i ≡ mark_of (hash x) d))
+        ⊎ ((x : X) × (d : ℕ) × IsAway home n slots i x d × (mark i ≡ mark_of (hash x) d))
     marked-cases i h = elim (slot-cases slots i (omega (arith, are.ordered.long))) [
       | inl s ↦ inl (s, are.free i s)
       | inr x ↦
-          let a = away-of (λ x. home_of n (hash x)) n homes slots i x.0 are.ordered.long x.1 in
+          let a = away-of home n homes slots i x.0 are.ordered.long x.1 in
           inr (x.0, a.0, a.1, are.marks i a.0 x.0 a.1)
     ]
 
@@ -90,54 +89,54 @@ module _ {X : Type 0} (hash : X → ℕ) (n : ℕ) (some : 0 < n) (slots : List 
       at_less = spot-less n (home_of n h) d (mod-lt h some) less
 
       -- a mark that isn't lower: the slot is passed
-      pub marked-passes : IsPassed (λ x. home_of n (hash x)) n slots (home_of n h) d → mark_of h d / 16 * 16 ≤ mark (spot n (home_of n h) d)
-          → IsPassed (λ x. home_of n (hash x)) n slots (home_of n h) (d + 1)
+      pub marked-passes : IsPassed home n slots (home_of n h) d → mark_of h d / 16 * 16 ≤ mark (spot n (home_of n h) d)
+          → IsPassed home n slots (home_of n h) (d + 1)
       marked-passes p m = elim (marked-cases (spot n (home_of n h) d) at_less) [
         | inl s ↦ absurd (omega (arith, s.1, m, mark-least h d))
         | inr a ↦
             let far : min d 14 ≤ a.1 = mark-far h (hash a.0) d a.1 (subst (λ k. mark_of h d / 16 * 16 ≤ k) a.3 m) in
-            mark-passed-more (λ x. home_of n (hash x)) n (home_of n h) slots d a.0 a.1 p a.2 far
+            mark-passed-more home n (home_of n h) slots d a.0 a.1 p a.2 far
       ]
 
       -- a lower one: the walk stops there
-      pub marked-stops : mark (spot n (home_of n h) d) < mark_of h d / 16 * 16 → Stops (λ x. home_of n (hash x)) n (home_of n h) slots d
+      pub marked-stops : mark (spot n (home_of n h) d) < mark_of h d / 16 * 16 → Stops home n (home_of n h) slots d
       marked-stops m = record {
         nearer =
             λ y e a. (mark-near h (hash y) d e (subst (λ k. k < mark_of h d / 16 * 16) (are.marks (spot n (home_of n h) d) e y a) m)).0;
       }
 
       -- this is where a pair with the hash goes
-      pub marked-spot : IsPassed (λ x. home_of n (hash x)) n slots (home_of n h) d → Stops (λ x. home_of n (hash x)) n (home_of n h) slots d
-          → IsSpotFor (λ x. home_of n (hash x)) n slots h (spot n (home_of n h) d) (mark_of h d)
+      pub marked-spot : IsPassed home n slots (home_of n h) d → Stops home n (home_of n h) slots d
+          → IsSpotFor home n slots h (spot n (home_of n h) d) (mark_of h d)
       marked-spot p stop = record {
         distance = d;
         mark_is = refl;
         near = λ m.
             let few : d < 14 = omega arith in
-            place-for (λ x. home_of n (hash x)) n homes (home_of n h) slots d less
-            (mark-passed-reached (λ x. home_of n (hash x)) n (home_of n h) slots d (omega arith) p) stop;
-        far = λ m. mark-passed-fewer (λ x. home_of n (hash x)) n (home_of n h) slots d 14 (omega arith) p;
+            place-for home n homes (home_of n h) slots d less
+            (mark-passed-reached home n (home_of n h) slots d (omega arith) p) stop;
+        far = λ m. mark-passed-fewer home n (home_of n h) slots d 14 (omega arith) p;
       }
 
       -- an item with the hash has that mark there
       pub marked-same : (x : X) → slice_get slots (spot n (home_of n h) d) ≡ Some (Some x) → hash x ≡ h
           → mark (spot n (home_of n h) d) ≡ mark_of h d
       marked-same x s e =
-          let a = away-of (λ x. home_of n (hash x)) n homes slots (spot n (home_of n h) d) x are.ordered.long s in
+          let a = away-of home n homes slots (spot n (home_of n h) d) x are.ordered.long s in
           let far : a.0
-          ≡ d = away-start (λ x. home_of n (hash x)) n homes (home_of n h) slots d x a.0 (mod-lt h some) less a.1 (ap (home_of n) e) in
+          ≡ d = away-start home n homes (home_of n h) slots d x a.0 (mod-lt h some) less a.1 (ap (home_of n) e) in
           are.marks (spot n (home_of n h) d) a.0 x a.1 ∙ (ap (λ k. mark_of k a.0) e ∙ ap (mark_of h) far)
 
     -- a walk meets a free slot in less than a round
-    pub marked-less : (h d : ℕ) → length (items slots) < n → IsPassed (λ x. home_of n (hash x)) n slots (home_of n h) d → d < n
+    pub marked-less : (h d : ℕ) → length (items slots) < n → IsPassed home n slots (home_of n h) d → d < n
     marked-less h d room p =
         taken-less n (home_of n h) slots d are.ordered.long room (mod-lt h some)
-        (mark-passed-taken (λ x. home_of n (hash x)) n (home_of n h) slots d p)
+        (mark-passed-taken home n (home_of n h) slots d p)
 
     -- where a search stops, no slot holds the content
     pub marked-lacks : (content : X → List ℕ) (q : List ℕ) (h d : ℕ)
         → ((j : ℕ) (x : X) → slice_get slots j ≡ Some (Some x) → content x ≡ q → hash x ≡ h)
-        → Passed n content q (home_of n h) slots d → Stops (λ x. home_of n (hash x)) n (home_of n h) slots d → Lacks content slots q
+        → Passed n content q (home_of n h) slots d → Stops home n (home_of n h) slots d → Lacks content slots q
     marked-lacks content q h d hashed p stop =
-        passed-lacks (λ x. home_of n (hash x)) n homes (home_of n h) slots are.ordered content q d (mod-lt h some)
+        passed-lacks home n homes (home_of n h) slots are.ordered content q d (mod-lt h some)
         (λ j x s c. ap (home_of n) (hashed j x s c)) p stop

@@ -64,6 +64,7 @@ pub fn mark_of(hash: u64, distance: u64) -> u8
 }
 
 /// Returns the slot of the ring for a number: the number modulo the number of slots.
+#[tactic(auto, using(crate::proofs::Homes::ring_laws))]
 #[inline]
 pub fn ring(slots: u64, at: u64) -> u64
     requires { IsPowerOfTwo slots }
@@ -73,6 +74,7 @@ pub fn ring(slots: u64, at: u64) -> u64
 }
 
 /// Returns the probe distance of a slot: how far it is from the home of a hash.
+#[tactic(auto, using(crate::proofs::Homes::ring_laws))]
 #[inline]
 pub fn distance(slots: u64, hash: u64, at: u64) -> u64
     requires ring { IsRing slots }
