@@ -94,6 +94,7 @@ impl<K: ArenaKey, V: Item, S: KeyHasher> HashMap<K, V, S> {
     }
 
     // The value in a slot.
+    #[tactic(auto, using(arena_table::proofs::HandleLemmas::handle_laws))]
     #[inline(always)]
     fn value<C: ChunkSource>(&self, a: &Allocator<C>, at: u64) -> V
         requires keys_small { K.SIZE ≤ 2 ^ 24 }

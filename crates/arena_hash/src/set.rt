@@ -64,8 +64,7 @@ impl<T: ArenaKey, S: KeyHasher> HashSet<T, S> {
             a.old a.new capacity result }
         ensures hasher { IfOk result (λ s. S.is_default s.map.hasher) }
     {
-        let map = HashMap::with_capacity_in(capacity, a)?;
-        Ok(HashSet { map })
+        HashSet::with_capacity_and_hasher_in(capacity, S::default(), a)
     }
 
     /// Returns an empty set with room for `capacity` items, and this hasher.

@@ -61,7 +61,7 @@ impl<K: ArenaKey, V: Item, S: KeyHasher> HashMap<K, V, S> {
 
     /// Returns the pair in a slot of the table, or `None` if the slot is free. A walk by slots can continue while the
     /// arena changes elsewhere.
-    #[tactic(auto, using(arena_table::proofs::SlotLemmas::slot_laws))]
+    #[tactic(auto, using(arena_table::proofs::SlotLemmas::slot_laws, arena_table::proofs::HandleLemmas::handle_laws))]
     #[inline]
     pub fn pair_at<C: ChunkSource>(&self, a: &Allocator<C>, slot: u64) -> Option<(K, V)>
         requires keys_small { K.SIZE ≤ 2 ^ 24 }

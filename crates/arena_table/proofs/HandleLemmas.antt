@@ -105,3 +105,6 @@ in-edited {K} {V} k old new hasher t held frame state table texts = record {
   where
     stays : (x : K × V) → Has (slots_in k.keys k.values new t) x → Stays old new (t.block ∷ []) (k.key.text x.0)
     stays x h = frame_keeps old new (t.block ∷ []) (t.block ∷ []) (k.key.text x.0) frame (texts x h).readable ((texts x h).apart, tt)
+
+-- for automatic proof
+pub ruleset handle_laws = (handle-shape, held-within)

@@ -128,3 +128,6 @@ module _ {K V : Type 0} (keys : Ghosts K) (values : Ghosts V) (memory : Memory) 
   -- and all are there
   pub table-long : t.slots ≤ length bytes
   table-long = walk-long keys values t.slots bytes (walk-shape keys values memory t bytes small few handle is)
+
+-- for automatic proof
+pub ruleset walk_laws = (table-groups, table-long, handle-shape)

@@ -164,6 +164,7 @@ impl<K: ArenaKey, V: Item> Table<K, V> {
     }
 
     /// Inserts a pair with a new content.
+    #[tactic(auto, using(crate::proofs::HandleLemmas::handle_laws))]
     #[inline(always)]
     pub fn settle<S: KeyHasher, C: ChunkSource>(
         self,
@@ -190,6 +191,7 @@ impl<K: ArenaKey, V: Item> Table<K, V> {
     }
 
     /// Frees a slot, and closes the gap.
+    #[tactic(auto, using(crate::proofs::HandleLemmas::handle_laws))]
     #[inline(always)]
     pub fn close<S: KeyHasher, C: ChunkSource>(self, a: &mut Allocator<C>, hasher: &S, at: u64)
         requires keys_small { K.SIZE ≤ 2 ^ 24 }
@@ -218,6 +220,7 @@ impl<K: ArenaKey, V: Item> Table<K, V> {
     }
 
     // Inserts the next pair of a walk over another table, and returns where the walk continues, or `None` at its end.
+    #[tactic(auto, using(crate::proofs::WalkLemmas::walk_laws))]
     #[inline(always)]
     fn carry<S: KeyHasher, C: ChunkSource>(
         self,
@@ -254,6 +257,7 @@ impl<K: ArenaKey, V: Item> Table<K, V> {
     }
 
     /// Inserts all pairs of another table into this one, which must be empty.
+    #[tactic(auto, using(crate::proofs::WalkLemmas::walk_laws))]
     pub fn carry_all<S: KeyHasher, C: ChunkSource>(
         self,
         a: &mut Allocator<C>,

@@ -13,14 +13,6 @@ returns-then-bytes-slot-eq0 g c =
     let shape = handle-shape _ _ _ _ c.requires.keys_small c.requires.values_small c.requires.handle (omega arith) in
     slot-free _ _ _ _ shape c.args.slot c.requires.index (rw c.read-bytes.ensures at c.if-bytes-slot-eq0.true)
 
-pub key_at-requires-clause-shape : goal.key_at-requires-clause-shape
-key_at-requires-clause-shape g c = rw c.read-bytes.ensures (handle-shape g.K.Item g.V.Item c.args.a.now.memory c.args.self.now.table
-    c.requires.keys_small c.requires.values_small c.requires.handle (omega arith))
-
-pub value_at-requires-clause-shape : goal.value_at-requires-clause-shape
-value_at-requires-clause-shape g c = rw c.read-bytes.ensures (handle-shape g.K.Item g.V.Item c.args.a.now.memory c.args.self.now.table
-    c.requires.keys_small c.requires.values_small c.requires.handle (omega arith))
-
 pub returns : goal.returns
 returns g c =
     let shape = handle-shape _ _ _ _ c.requires.keys_small c.requires.values_small c.requires.handle (omega arith) in

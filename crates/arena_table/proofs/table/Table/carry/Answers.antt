@@ -5,28 +5,8 @@ use Rattle.arena_items.specs.Values.{bytes_of}
 use Rattle.hash_ring.specs.Slots.{Settled}
 use Rattle.arena_table.specs.Tables.{slots_in, IsTextBeside}
 use Rattle.arena_table.proofs.HandleLemmas.{handle-shape}
-use Rattle.arena_table.proofs.WalkLemmas.{table-groups, table-long, walk-goes}
+use Rattle.arena_table.proofs.WalkLemmas.{walk-goes}
 use Rattle.arena_table.proofs.table.Table.carry.Goals as goal
-
-pub step-slot-requires-clause-groups : goal.step-slot-requires-clause-groups
-step-slot-requires-clause-groups g c =
-    table-groups _ _ _ _ _ c.requires.keys_small c.requires.values_small c.requires.from.handle c.read-bytes.ensures
-
-pub step-slot-requires-clause-long : goal.step-slot-requires-clause-long
-step-slot-requires-clause-long g c =
-    table-long _ _ _ _ _ c.requires.keys_small c.requires.values_small c.requires.from.handle c.read-bytes.ensures
-
-pub key_at-key-requires-clause-shape : goal.key_at-key-requires-clause-shape
-key_at-key-requires-clause-shape g c =
-    let goes = MatchOption-at_some _ _ c.in-Some.i c.in-Some.is c.step-slot.ensures.goes in
-    rw c.read-bytes.ensures
-    (handle-shape _ _ _ _ c.requires.keys_small c.requires.values_small c.requires.from.handle (omega (arith, goes.less)))
-
-pub value_at-value-requires-clause-shape : goal.value_at-value-requires-clause-shape
-value_at-value-requires-clause-shape g c =
-    let goes = MatchOption-at_some _ _ c.in-Some.i c.in-Some.is c.step-slot.ensures.goes in
-    rw c.read-bytes.ensures
-    (handle-shape _ _ _ _ c.requires.keys_small c.requires.values_small c.requires.from.handle (omega (arith, goes.less)))
 
 pub content-requires : goal.content-requires
 content-requires g c =

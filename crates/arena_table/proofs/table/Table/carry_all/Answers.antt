@@ -6,14 +6,8 @@ use Rattle.hash_ring.specs.Walks.{front_of, AreFree, CarriesNext}
 use Rattle.hash_ring.proofs.Fill.{Filled, filled-start, filled-room, filled-goes, filled-whole}
 use Rattle.arena_table.specs.Tables.{slots_in, slots_of}
 use Rattle.arena_table.proofs.ReadLemmas.{read-bytes, read-stays}
-use Rattle.arena_table.proofs.WalkLemmas.{table-long, walk-free, walk-goes, walk-shape, walk-slots}
+use Rattle.arena_table.proofs.WalkLemmas.{walk-free, walk-goes, walk-shape, walk-slots}
 use Rattle.arena_table.proofs.table.Table.carry_all.Goals as goal
-
-pub start-scan-requires : goal.start-scan-requires
-start-scan-requires g c =
-    record {
-      long = table-long _ _ _ _ _ c.requires.keys_small c.requires.values_small c.requires.from.handle c.read.ensures;
-    }
 
 pub pairs-init : goal.pairs-init
 pairs-init g c =

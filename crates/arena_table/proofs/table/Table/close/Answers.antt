@@ -5,15 +5,6 @@ use Rattle.arena_table.proofs.EditedLemmas.{in-close}
 use Rattle.arena_table.proofs.HandleLemmas.{handle-shape, held-within, given-whole}
 use Rattle.arena_table.proofs.table.Table.close.Goals as goal
 
-pub is_near-requires-clause-long : goal.is_near-requires-clause-long
-is_near-requires-clause-long g c =
-    let some : 0 < c.args.self.slots = omega (arith, c.requires.free) in
-    let shape = handle-shape _ _ _ _ c.requires.keys_small c.requires.values_small c.requires.held.handle some in
-    rw c.read.ensures (omega (arith, shape.long))
-
-pub is_near-requires-clause-at : goal.is_near-requires-clause-at
-is_near-requires-clause-at g c = held-within c.requires.held c.args.at c.requires.taken.0 c.requires.taken.1
-
 pub write_with-requires-clause-suits : goal.write_with-requires-clause-suits
 write_with-requires-clause-suits g c =
     let some : 0 < c.args.self.slots = omega (arith, c.requires.free) in

@@ -1,13 +1,6 @@
-use Rattle.std.proofs.Common.{arith}
 use Rattle.arena_table.specs.Contents.{kind}
 use Rattle.arena_table.specs.Tables.{pair_hash}
-use Rattle.arena_table.proofs.HandleLemmas.{handle-shape}
 use Rattle.arena_table.proofs.table.Table.settle.Goals as goal
-
-pub spot_for-at-requires : goal.spot_for-at-requires
-spot_for-at-requires g c = rw c.read.ensures (record {
-  shape = handle-shape _ _ _ _ c.requires.keys_small c.requires.values_small c.requires.held.handle (omega (arith, c.requires.free));
-})
 
 pub put-requires-clause-spot : goal.put-requires-clause-spot
 put-requires-clause-spot g c =
