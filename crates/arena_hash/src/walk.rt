@@ -41,6 +41,7 @@ impl<'a, K: Item, V: Item, C: ChunkSource> Model for Iter<'a, K, V, C> {
 
 impl<K: ArenaKey, V: Item, S: KeyHasher> HashMap<K, V, S> {
     /// Returns an iterator over the pairs, each once, in unspecified order.
+    #[tactic(auto, using(arena_table::proofs::WalkLemmas::walk_laws))]
     pub fn iter<'a, C: ChunkSource>(&self, a: &'a Allocator<C>) -> Iter<'a, K, V, C>
         requires keys_small { K.SIZE ≤ 2 ^ 24 }
         requires values_small { V.SIZE ≤ 2 ^ 24 }

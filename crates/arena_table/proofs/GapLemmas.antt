@@ -10,14 +10,11 @@ use Rattle.std.proofs.Math.Nat.{mod-lt}
 use Rattle.hash_ring.proofs.Close.{Closing, closing-start, closing-less, closing-pull, closing-free}
 use Rattle.hash_ring.proofs.Homes.{home-less, step-place}
 use Rattle.hash_ring.proofs.Order.{away-of}
-use Rattle.hash_ring.proofs.RingLemmas.{spot-less, spot-zero, spot-same, spot-before, next-spot}
+use Rattle.hash_ring.proofs.RingLemmas.{below-next, spot-less, spot-zero, spot-same, spot-before, next-spot}
 use Rattle.arena_table.specs.Edits.{SetsSlot, CopiesSlot, ClosesGap, IsNear}
 use Rattle.arena_table.specs.Tables.{slots_of, IsShape, IsTable}
 use Rattle.arena_table.proofs.SlotLemmas.{slots-long, slot-taken}
 use Rattle.arena_table.proofs.TableLemmas.{table-put, table-free}
-
-below_next : (e k : ℕ) → e < k + 1 → (e < k) ⊎ (e ≡ k)
-below_next e k h = grind arith
 
 -- ---- Marks after a slot
 
@@ -37,7 +34,7 @@ module _ (n : ℕ) (bytes : List ℕ) (start : ℕ) (begun : start < n) where
     pub near-on : get_or bytes next 0 < 240 → NearTo n bytes start (k + 1) next
     near-on low = record {
       place = here;
-      near = λ e l m. elim (below_next e k l) [
+      near = λ e l m. elim (below-next e k l) [
         | inl b ↦ s.near e b m
         | inr b ↦ subst (λ p. get_or bytes p 0 < 240) (here ∙ ap (λ j. spot n start (j + 1)) (sym b)) low
       ];
@@ -119,7 +116,7 @@ module _ {K V : Type 0} (keys : Ghosts K) (values : Ghosts V) (n start : ℕ) (f
                 sets.others (spot n start e) (spot-less n start e begun m)
                 (λ q. absurd (omega (arith, l, spot-same n start e k begun m less (q ∙ s.place))))
                 ∙ s.rest e (omega arith) m;
-            run = λ e l m. elim (below_next e k l) [
+            run = λ e l m. elim (below-next e k l) [
               | inl b ↦ s.run e b m
               | inr b ↦
                   let here = subst (λ p. 32 ≤ get_or bytes p 0) there-is high in

@@ -41,10 +41,9 @@ held-is m x y e = elim (zero-or m) [
 
 module _ {X : Type 0} where
   length-marked : (marks : List ℕ) (xs : List X) → length marks ≡ length xs → length (marked marks xs) ≡ length xs
-  length-marked [] [] e = refl
   length-marked [] (x ∷ xs) e = absurd (omega arith)
-  length-marked (m ∷ marks) [] e = refl
   length-marked (m ∷ marks) (x ∷ xs) e = ap suc (length-marked marks xs (omega arith))
+  length-marked _ _ e = refl
 
   marked-get : (marks : List ℕ) (xs : List X) (i : ℕ) (x : X) → i < length marks → slice_get xs i ≡ Some x
       → slice_get (marked marks xs) i ≡ Some (held (get_or marks i 0) x)
@@ -54,18 +53,14 @@ module _ {X : Type 0} where
   marked-get (m ∷ marks) (y ∷ xs) (suc i) x h s = marked-get marks xs i x (omega arith) s
 
   marked-put : (marks : List ℕ) (xs : List X) (i m : ℕ) (x : X) → marked (set marks i m) (set xs i x) ≡ set (marked marks xs) i (held m x)
-  marked-put [] xs i m x = refl
-  marked-put (k ∷ marks) [] zero m x = refl
-  marked-put (k ∷ marks) [] (suc i) m x = refl
-  marked-put (k ∷ marks) (y ∷ xs) zero m x = refl
   marked-put (k ∷ marks) (y ∷ xs) (suc i) m x = ap (λ r. held k y ∷ r) (marked-put marks xs i m x)
+  marked-put (k ∷ marks) [] (suc i) m x = refl
+  marked-put _ _ _ m x = refl
 
   marked-free : (marks : List ℕ) (xs : List X) (i : ℕ) → marked (set marks i 0) xs ≡ set (marked marks xs) i None
-  marked-free [] xs i = refl
-  marked-free (k ∷ marks) [] zero = refl
-  marked-free (k ∷ marks) [] (suc i) = refl
-  marked-free (k ∷ marks) (y ∷ xs) zero = refl
   marked-free (k ∷ marks) (y ∷ xs) (suc i) = ap (λ r. held k y ∷ r) (marked-free marks xs i)
+  marked-free (k ∷ marks) [] (suc i) = refl
+  marked-free _ _ _ = refl
 
 -- ---- Lists of bytes
 
@@ -82,10 +77,8 @@ front-take n xs i h = grind (arith, common_steps)
 
 -- a place of the front is set
 set-take : (n : ℕ) (xs : List ℕ) (i y : ℕ) → i < n → take n (set xs i y) ≡ set (take n xs) i y
-set-take zero xs i y h = absurd (omega arith)
-set-take (suc n) [] i y h = refl
-set-take (suc n) (x ∷ xs) zero y h = refl
 set-take (suc n) (x ∷ xs) (suc i) y h = ap (λ zs. x ∷ zs) (set-take n xs i y (omega arith))
+set-take _ _ _ y h = refl
 
 -- the same write, as a write to a part that was borrowed
 pub mid-splice : (at n : ℕ) (xs ys : List ℕ) → length ys ≡ n → put_mid at (at + n - at) xs ys ≡ splice xs at ys
@@ -99,10 +92,7 @@ splice-split n at xs ys =
     let last : n + at + length ys ≡ n + (at + length ys) = omega arith in
     let rest : drop (n + at + length ys) xs ≡ drop (at + length ys) (drop n xs) =
     ap (λ k. drop k xs) last ∙ sym (drop-drop (at + length ys) n xs) in
-    ap (λ zs. (zs ++ ys) ++ drop (n + at + length ys) xs) (take-add n at xs)
-    ∙ (ap (λ zs. zs ++ drop (n + at + length ys) xs) (append_assoc (take n xs) (take at (drop n xs)) ys)
-    ∙ (append_assoc (take n xs) (take at (drop n xs) ++ ys) (drop (n + at + length ys) xs)
-    ∙ ap (λ zs. take n xs ++ ((take at (drop n xs) ++ ys) ++ zs)) rest))
+    rw (rest, take-add n at xs) (simp append_assoc)
 
 -- and one that begins earlier, with the bytes that are there
 splice-behind : (at n : ℕ) (xs ys : List ℕ) → at + n ≤ length xs → splice xs (at + n) ys ≡ splice xs at (take n (drop at xs) ++ ys)
@@ -110,9 +100,7 @@ splice-behind at n xs ys h =
     let front : List ℕ = take n (drop at xs) in
     let long : length front ≡ n = omega (arith, length-take n (drop at xs), length-drop at xs, h) in
     let last : at + n + length ys ≡ at + length (front ++ ys) = omega (arith, length-append front ys, long) in
-    ap (λ zs. (zs ++ ys) ++ drop (at + n + length ys) xs) (take-add at n xs)
-    ∙ (ap (λ zs. zs ++ drop (at + n + length ys) xs) (append_assoc (take at xs) front ys)
-    ∙ ap (λ k. (take at xs ++ (front ++ ys)) ++ drop k xs) last)
+    rw (last, take-add at n xs) (simp append_assoc)
 
 -- ---- Slots of bytes
 

@@ -1,12 +1,5 @@
-use Rattle.arena_table.proofs.WalkLemmas.{table-long}
 use Rattle.arena_hash.proofs.WalkLemmas.{map-lists, map-walk}
 use Rattle.arena_hash.proofs.map.HashMap.iter.Goals as goal
-
-pub start-requires : goal.start-requires
-start-requires g c =
-    record {
-      long = table-long _ _ _ _ _ c.requires.keys_small c.requires.values_small c.requires.held.handle c.read-bytes.ensures;
-    }
 
 pub invariant_of-result : goal.invariant_of-result
 invariant_of-result g c =
