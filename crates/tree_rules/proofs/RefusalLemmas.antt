@@ -1,5 +1,5 @@
 -- The machine's reading of a text is right, and the only one.
-use Rattle.std.proofs.Common.{◌≡◌, ℕ, ◌≤◌, ◌<◌, ◌⊎◌, inl, inr, Bool, true, false, cond, Option, Some, None, Ok, Err, List, [], ◌∷◌, ◌++◌, length, refl, sym, ap, ◌∙◌, subst, arith, append_assoc, append-nil}
+use Rattle.std.proofs.Common.{◌≡◌, ℕ, ◌≤◌, ◌<◌, inl, inr, Bool, true, false, cond, Option, Some, None, Ok, Err, List, [], ◌∷◌, ◌++◌, length, refl, sym, ap, ◌∙◌, subst, arith, append_assoc, append-nil}
 use Rattle.std.specs.Prelude.{Result, nat_lt}
 use Rattle.std.specs.List.{AllByRecursion}
 use Rattle.std.proofs.lemmas.Bool.Decides.{nat_tests}
@@ -11,7 +11,7 @@ use Rattle.tree_rules.specs.Grammar.{Program, spell, nest, trees_of, IsProgram, 
 use Rattle.tree_rules.specs.Refusals.{most_nest, Fits, ArePassed, IsCause, IsFirstRefused, EndsEarly, IsGood, TreeOf, IsReading}
 use Rattle.tree_rules.specs.declared.machine.Open.{Open}
 use Rattle.tree_rules.specs.declared.machine.Mode.{Mode}
-use Rattle.tree_rules.specs.declared.machine.Mode.TheVariants.{AtLine, AtName, AtEquals, AtFactor, BehindFactor}
+use Rattle.tree_rules.specs.declared.machine.Mode.TheVariants.{AtLine}
 use Rattle.tree_rules.specs.Reading.{State, state, step, start, is_too_big, or_refused, judged, ended, ended_in, refusal_from, refusal_of, refused_by}
 use Rattle.tree_rules.specs.declared.refused.Refused.{Refused}
 use Rattle.tree_rules.specs.declared.refused.Refused.TheVariants.{Syntax, TooDeep, NumberTooBig}
@@ -25,22 +25,6 @@ use Rattle.tree_rules.specs.Report.{IsReport, findings_of}
 use Rattle.tree_rules.specs.declared.finding.Finding.{Finding}
 
 -- ---- What the machine says is right
-
-abbrev Refuses : ℕ → List Placed → Refused → Type 0
-Refuses end all refused =
-    IsFirstRefused all refused
-    ⊎ (ArePassed (without_places all) × ((trees : Stmts) (n : ℕ) → IsProgram (without_places all) trees n → ⊥) × (refused ≡ Syntax end))
-
-record Passes (all : List Placed) : Type 0 where
-  trees : Stmts
-  most : ℕ
-  program : IsProgram (without_places all) trees most
-  within : most ≤ most_nest
-  fit : AllByRecursion Fits (without_places all)
-
-abbrev Says : ℕ → List Placed → Option Refused → Type 0
-Says end all None = Passes all
-Says end all (Some refused) = Refuses end all refused
 
 -- tokens that are accepted, and the state after them
 record IsAt (front : List Placed) (s : State) : Type 0 where
@@ -75,17 +59,19 @@ place_program most ts (LinePlace (InProgram p)) is before_is fits = (p, before_i
 place_program most ts (LinePlace (InBlock p h)) is before_is fits = absurd (not_start_open _ _ _ is)
 place_program most ts _ is before_is fits = absurd (not_start_mode _ _ is tt)
 
-start_passes : (all : List Placed) → IsAt all start → Passes all
-start_passes all a =
-    let l = leads most_nest (without_places all) start a.goes_is in
-    let p = place_program most_nest (without_places all) l.place l.state_is l.before_is l.fits in
-    record {
-      trees = trees_of p.0;
-      most = nest p.0;
-      program = record { program = p.0; tokens_are = p.1; trees_are = refl; nest_is = refl };
-      within = p.2;
-      fit = a.fit;
-    }
+start_passes : (bytes : List ℕ) → IsAt (tokens bytes) start → (trees : Stmts) × IsGood bytes trees
+start_passes bytes a =
+    let ts = without_places (tokens bytes) in
+    let l = leads most_nest ts start a.goes_is in
+    let p = place_program most_nest ts l.place l.state_is l.before_is l.fits in (
+      trees_of p.0,
+      record {
+        most = nest p.0;
+        program = record { program = p.0; tokens_are = p.1; trees_are = refl; nest_is = refl };
+        within = p.2;
+        fit = a.fit;
+      },
+    )
 
 no_program : (all : List Placed) (s : State) → IsAt all s → (s ≡ start → ⊥) → (trees : Stmts) (n : ℕ)
     → IsProgram (without_places all) trees n → ⊥
@@ -93,34 +79,16 @@ no_program all s a other trees n p =
     other (one_state most_nest n start s start (without_places all) a.goes_is
     (subst (λ ts. goes n start ts ≡ Some start) p.tokens_are (program_over p.program n (omega (arith, p.nest_is)))))
 
-ends_early : (end : ℕ) (all : List Placed) (s : State) → IsAt all s → (s ≡ start → ⊥) → Refuses end all (Syntax end)
-ends_early end all s a other = inr (passed all s a, no_program all s a other, refl)
+ends_early : (bytes : List ℕ) (s : State) → IsAt (tokens bytes) s → (s ≡ start → ⊥) → TreeOf bytes (Err (Syntax (length bytes)))
+ends_early bytes s a other = inr (record { passed = passed _ s a; none = no_program _ s a other; place = refl })
 
-says_end : (end : ℕ) (all : List Placed) (s : State) → IsAt all s → Says end all (ended end s)
-says_end end all s a = by s.mode s.opens (subst (IsAt all) same a)
+says_end : (bytes : List ℕ) (s : State) → IsAt (tokens bytes) s → IsReading bytes (ended (length bytes) s)
+says_end bytes s = by s.mode s.opens
   where
-    same : s ≡ state s.mode s.opens
-    same = refl
-
-    by : (mode : Mode) (opens : List Open) → IsAt all (state mode opens) → Says end all (ended_in end mode opens)
-    by AtLine [] a = start_passes all a
-    by AtLine (o ∷ opens) a = ends_early end all _ a (not_start_open AtLine o opens)
-    by AtName opens a = ends_early end all _ a (λ e. not_start_mode AtName opens e tt)
-    by AtEquals opens a = ends_early end all _ a (λ e. not_start_mode AtEquals opens e tt)
-    by AtFactor opens a = ends_early end all _ a (λ e. not_start_mode AtFactor opens e tt)
-    by BehindFactor opens a = ends_early end all _ a (λ e. not_start_mode BehindFactor opens e tt)
-
--- the first token that is refused, after these
-refuses_first : (end : ℕ) (all front ts : List Placed) (t : Placed) (s : State) (refused : Refused) → all ≡ front ++ t ∷ ts → IsAt front s
-    → IsCause (without_places front) t.token t.at refused → Refuses end all refused
-refuses_first end all front ts t s refused is a cause = inl (record {
-  before = front;
-  token = t;
-  after = ts;
-  all = is;
-  passed = passed front s a;
-  cause = cause;
-})
+    by : (mode : Mode) (opens : List Open) → IsAt (tokens bytes) (state mode opens) → IsReading bytes (ended_in (length bytes) mode opens)
+    by AtLine [] a = start_passes bytes a
+    by AtLine (o ∷ opens) a = ends_early bytes _ a (not_start_open AtLine o opens)
+    by mode opens a = ends_early bytes _ a (λ e. not_start_mode mode opens e tt)
 
 goes_join : (most : ℕ) (s end next : State) (front : List Token) (t : Token) → goes most s front ≡ Some end → step end t ≡ Some next
     → length next.opens ≤ most → goes most s (front ++ t ∷ []) ≡ Some next
@@ -184,19 +152,21 @@ judges_step front t s a (Some next) is = judges_depth front t s next a is (nat_l
 judges : (front : List Placed) (t : Placed) (s : State) → IsAt front s → Judges front t (judged s t)
 judges front t s a = judges_step front t s a (step s t.token) refl
 
-says_judged : (end : ℕ) (all front ts : List Placed) (t : Placed) (s : State) → all ≡ front ++ t ∷ ts → IsAt front s
+says_judged : (bytes : List ℕ) (front ts : List Placed) (t : Placed) (s : State) → tokens bytes ≡ front ++ t ∷ ts → IsAt front s
     → (r : Result State Refused) → Judges front t r
-    → ((next : State) → IsAt (front ++ t ∷ []) next → Says end all (refusal_from end next ts))
-    → Says end all (elim r [ Err refused ↦ Some refused | Ok next ↦ refusal_from end next ts ])
-says_judged end all front ts t s is a (Err refused) cause go = refuses_first end all front ts t s refused is a cause
-says_judged end all front ts t s is a (Ok next) at go = go next at
+    → ((next : State) → IsAt (front ++ t ∷ []) next → IsReading bytes (refusal_from (length bytes) next ts))
+    → IsReading bytes (elim r [ Err refused ↦ Some refused | Ok next ↦ refusal_from (length bytes) next ts ])
+says_judged bytes front ts t s is a (Err refused) cause go =
+    inl (record { before = front; token = t; after = ts; all = is; passed = passed front s a; cause = cause })
+says_judged bytes front ts t s is a (Ok next) at go = go next at
 
-says_from : (end : ℕ) (all front ts : List Placed) (s : State) → all ≡ front ++ ts → IsAt front s → Says end all (refusal_from end s ts)
+says_from : (bytes : List ℕ) (front ts : List Placed) (s : State) → tokens bytes ≡ front ++ ts → IsAt front s
+    → IsReading bytes (refusal_from (length bytes) s ts)
 unfolding refusal_from
-says_from end all front [] s is a = says_end end all s (subst (λ xs. IsAt xs s) (sym (is ∙ append-nil front)) a)
-says_from end all front (t ∷ ts) s is a =
-    says_judged end all front ts t s is a (judged s t) (judges front t s a)
-    (λ next at. says_from end all (front ++ t ∷ []) ts next (is ∙ sym (append_assoc front (t ∷ []) ts)) at)
+says_from bytes front [] s is a = says_end bytes s (subst (λ xs. IsAt xs s) (sym (is ∙ append-nil front)) a)
+says_from bytes front (t ∷ ts) s is a =
+    says_judged bytes front ts t s is a (judged s t) (judges front t s a)
+    (λ next at. says_from bytes (front ++ t ∷ []) ts next (is ∙ sym (append_assoc front (t ∷ []) ts)) at)
 
 -- ---- The reading of a text
 
@@ -204,14 +174,9 @@ first_at : IsAt [] start
 unfolding goes
 first_at = record { goes_is = refl; fit = tt }
 
-read_says : (bytes : List ℕ) (o : Option Refused) → Says (length bytes) (tokens bytes) o → IsReading bytes o
-read_says bytes None p = (p.trees, record { most = p.most; program = p.program; within = p.within; fit = p.fit })
-read_says bytes (Some refused) (inl first) = inl first
-read_says bytes (Some refused) (inr early) = inr (record { passed = early.0; none = early.1; place = early.2 })
-
 -- A text is a tree if the machine doesn't refuse it, and else it is refused as the machine says.
 pub reading : (bytes : List ℕ) → IsReading bytes (refusal_of bytes)
-reading bytes = read_says bytes (refusal_of bytes) (says_from (length bytes) (tokens bytes) [] (tokens bytes) start refl first_at)
+reading bytes = says_from bytes [] (tokens bytes) start refl first_at
 
 -- ---- And nothing else is right
 
@@ -282,8 +247,8 @@ over_all end s all a = ap (refusal_from end start) (sym (append-nil all)) ∙ ov
 early_says : (bytes : List ℕ) (q : Refused) → EndsEarly bytes q → refusal_of bytes ≡ Some q
 early_says bytes q e =
     let a = at_passed (tokens bytes) e.passed in
-    let other : a.0 ≡ start → ⊥ = λ is. let p = start_passes (tokens bytes) (subst (IsAt (tokens bytes)) is a.1) in e.none p.trees p.most
-    p.program in
+    let other : a.0 ≡ start → ⊥
+    = λ is. let p = start_passes bytes (subst (IsAt (tokens bytes)) is a.1) in e.none p.0 p.1.most p.1.program in
     over_all (length bytes) a.0 (tokens bytes) a.1
     ∙ ended_other (length bytes) a.0.mode a.0.opens other
     ∙ ap Some (sym e.place)

@@ -1,5 +1,5 @@
 -- The text of a tree is a program, and its tree is that tree.
-use Rattle.std.proofs.Common.{◌≡◌, ℕ, List, [], ◌∷◌, ◌++◌, refl, sym, ap, ◌∙◌, codes, append_assoc}
+use Rattle.std.proofs.Common.{◌≡◌, ℕ, List, [], ◌∷◌, ◌++◌, refl, sym, ap, ◌∙◌, codes, append_assoc, append-nil}
 use Rattle.tree_rules.specs.Tokens.{Token, front, LetKey, Word, Plus, Minus, Star, LeftParen, RightParen, LeftBrace, RightBrace, Equals, Semicolon, tokens, without_places}
 use Rattle.call_rules.specs.Grammar.{with_feed}
 use Rattle.tree_rules.specs.Trees.{Expr, Num, Name, Neg, Sum, Prod, Exprs, NoExprs, And, with_expr, Stmt, Let, Show, Block, Stmts, NoStmts, Then, with_stmt, IsName, AreSeveral, IsExpr, AreExprs, IsStmt, AreStmts, AsExpr, AsTerm, AsFactor, expr_text, terms_text, more_terms_text, factors_text, more_factors_text, stmt_text, text}
@@ -76,24 +76,17 @@ unfolding lex front
 parens_lex inner rest spelled is =
     ap (λ ts. LeftParen ∷ ts) (ap (lex 0) (append_assoc inner (41 ∷ []) rest) ∙ is (41 ∷ rest) refl)
 
--- one term more, after a sum
-added_lex : (one more rest : List ℕ) (s : Terms) (t : Factors)
-    → lex 0 (one ++ (more ++ rest)) ≡ spell_factors t (lex 0 (more ++ rest))
-    → spell_terms (Added s t) (lex 0 (more ++ rest)) ≡ spell_terms s (lex 0 ((codes " + " ++ one ++ more) ++ rest))
+-- an operator, and one part more
+operators_lex : (xs : List ℕ) → (lex 0 (codes " + " ++ xs) ≡ Plus ∷ lex 0 xs) × (lex 0 (codes " - " ++ xs) ≡ Minus ∷ lex 0 xs)
+    × (lex 0 (codes " * " ++ xs) ≡ Star ∷ lex 0 xs)
 unfolding lex front
-added_lex one more rest s t is = ap (λ ts. spell_terms s (Plus ∷ ts)) (sym is ∙ ap (lex 0) (sym (append_assoc one more rest)))
+operators_lex xs = (refl, refl, refl)
 
-taken_lex : (one more rest : List ℕ) (s : Terms) (t : Factors)
-    → lex 0 (one ++ (more ++ rest)) ≡ spell_factors t (lex 0 (more ++ rest))
-    → spell_terms (Taken s t) (lex 0 (more ++ rest)) ≡ spell_terms s (lex 0 ((codes " - " ++ one ++ more) ++ rest))
-unfolding lex front
-taken_lex one more rest s t is = ap (λ ts. spell_terms s (Minus ∷ ts)) (sym is ∙ ap (lex 0) (sym (append_assoc one more rest)))
-
-times_lex : (one more rest : List ℕ) (t : Factors) (f : Factor)
-    → lex 0 (one ++ (more ++ rest)) ≡ spell_factor f (lex 0 (more ++ rest))
-    → spell_factors (Times t f) (lex 0 (more ++ rest)) ≡ spell_factors t (lex 0 ((codes " * " ++ one ++ more) ++ rest))
-unfolding lex front
-times_lex one more rest t f is = ap (λ ts. spell_factors t (Star ∷ ts)) (sym is ∙ ap (lex 0) (sym (append_assoc one more rest)))
+more_lex : (operator one more rest : List ℕ) (t : Token) (ahead part : List Token → List Token)
+    → ((xs : List ℕ) → lex 0 (operator ++ xs) ≡ t ∷ lex 0 xs) → lex 0 (one ++ (more ++ rest)) ≡ part (lex 0 (more ++ rest))
+    → ahead (t ∷ part (lex 0 (more ++ rest))) ≡ ahead (lex 0 ((operator ++ (one ++ more)) ++ rest))
+more_lex operator one more rest t ahead part op is = ap ahead (ap (λ ts. t ∷ ts) (sym is ∙ ap (lex 0) (sym (append_assoc one more rest)))
+    ∙ sym (ap (lex 0) (append_assoc operator (one ++ more) rest) ∙ op ((one ++ more) ++ rest)))
 
 negated_lex : (inner rest : List ℕ) (f : Factor) → lex 0 (inner ++ rest) ≡ spell_factor f (lex 0 rest)
     → lex 0 ((codes "-" ++ inner) ++ rest) ≡ Minus ∷ spell_factor f (lex 0 rest)
@@ -101,36 +94,29 @@ unfolding lex front
 negated_lex inner rest f is = ap (λ ts. Minus ∷ ts) is
 
 mutual
-  factor_lex : (e : Expr) (rest : List ℕ) → IsExpr e → Stops rest → lex 0 (expr_text e AsFactor ++ rest) ≡ spell_factor (as_factor e)
-      (lex 0 rest)
-  factor_lex (Num n) rest h stop = lex_number n rest stop
-  factor_lex (Name bytes) rest h stop = lex_name bytes rest h stop
-  factor_lex (Neg e) rest h stop = negated_lex (expr_text e AsFactor) rest (as_factor e) (factor_lex e rest h stop)
-  factor_lex (Sum kids) rest h stop = parens_lex (terms_text kids) rest (spell_terms (as_sum kids)) (λ more s. sum_lex kids more h.0 h.1 s)
-  factor_lex (Prod kids) rest h stop = parens_lex (factors_text kids) rest (spell_factors (as_product kids)) (λ more s. product_lex kids
-      more h.0 h.1 s)
-
-  term_lex : (e : Expr) (rest : List ℕ) → IsExpr e → Stops rest → lex 0 (expr_text e AsTerm ++ rest) ≡ spell_factors (as_term e) (lex 0
-      rest)
-  term_lex (Num n) rest h stop = lex_number n rest stop
-  term_lex (Name bytes) rest h stop = lex_name bytes rest h stop
-  term_lex (Neg e) rest h stop = negated_lex (expr_text e AsFactor) rest (as_factor e) (factor_lex e rest h stop)
-  term_lex (Sum kids) rest h stop = parens_lex (terms_text kids) rest (spell_terms (as_sum kids)) (λ more s. sum_lex kids more h.0 h.1 s)
-  term_lex (Prod kids) rest h stop = product_lex kids rest h.0 h.1 stop
-
-  expr_lex : (e : Expr) (rest : List ℕ) → IsExpr e → Stops rest → lex 0 (expr_text e AsExpr ++ rest) ≡ spell_terms (as_expr e) (lex 0 rest)
-  expr_lex (Num n) rest h stop = lex_number n rest stop
-  expr_lex (Name bytes) rest h stop = lex_name bytes rest h stop
-  expr_lex (Neg e) rest h stop = negated_lex (expr_text e AsFactor) rest (as_factor e) (factor_lex e rest h stop)
-  expr_lex (Sum kids) rest h stop = sum_lex kids rest h.0 h.1 stop
-  expr_lex (Prod kids) rest h stop = product_lex kids rest h.0 h.1 stop
+  -- as a factor, as a term and alone
+  part_lex : (e : Expr) (rest : List ℕ) → IsExpr e → Stops rest
+      → (lex 0 (expr_text e AsFactor ++ rest) ≡ spell_factor (as_factor e) (lex 0 rest))
+      × (lex 0 (expr_text e AsTerm ++ rest) ≡ spell_factors (as_term e) (lex 0 rest))
+      × (lex 0 (expr_text e AsExpr ++ rest) ≡ spell_terms (as_expr e) (lex 0 rest))
+  part_lex (Num n) rest h stop = let p = lex_number n rest stop in (p, p, p)
+  part_lex (Name bytes) rest h stop = let p = lex_name bytes rest h stop in (p, p, p)
+  part_lex (Neg e) rest h stop =
+      let p = negated_lex (expr_text e AsFactor) rest (as_factor e) (part_lex e rest h stop).0 in
+      (p, p, p)
+  part_lex (Sum kids) rest h stop =
+      let p = parens_lex (terms_text kids) rest (spell_terms (as_sum kids)) (λ more s. sum_lex kids more h.0 h.1 s) in
+      (p, p, sum_lex kids rest h.0 h.1 stop)
+  part_lex (Prod kids) rest h stop =
+      let p = product_lex kids rest h.0 h.1 stop in
+      (parens_lex (factors_text kids) rest (spell_factors (as_product kids)) (λ more s. product_lex kids more h.0 h.1 s), p, p)
 
   sum_lex : (kids : Exprs) (rest : List ℕ) → AreSeveral kids → AreExprs kids → Stops rest
       → lex 0 (terms_text kids ++ rest) ≡ spell_terms (as_sum kids) (lex 0 rest)
   sum_lex NoExprs rest several h stop = absurd several
   sum_lex (And e kids) rest several h stop =
       ap (lex 0) (append_assoc (expr_text e AsTerm) (more_terms_text kids) rest)
-      ∙ term_lex e (more_terms_text kids ++ rest) h.0 (more_terms_stop kids rest stop)
+      ∙ (part_lex e (more_terms_text kids ++ rest) h.0 (more_terms_stop kids rest stop)).1
       ∙ sym (add_lex kids rest (OneTerm (as_term e)) h.1 stop)
 
   add_lex : (kids : Exprs) (rest : List ℕ) (s : Terms) → AreExprs kids → Stops rest
@@ -138,19 +124,19 @@ mutual
   add_lex NoExprs rest s h stop = refl
   add_lex (And (Neg e) kids) rest s h stop =
       add_lex kids rest (Taken s (as_term e)) h.1 stop
-      ∙ taken_lex (expr_text e AsTerm) (more_terms_text kids) rest s (as_term e) (term_lex e (more_terms_text kids ++ rest) h.0
-      (more_terms_stop kids rest stop))
+      ∙ more_lex (codes " - ") (expr_text e AsTerm) (more_terms_text kids) rest Minus (spell_terms s) (spell_factors (as_term e))
+      (λ xs. (operators_lex xs).1) (part_lex e (more_terms_text kids ++ rest) h.0 (more_terms_stop kids rest stop)).1
   add_lex (And e kids) rest s h stop =
       add_lex kids rest (Added s (as_term e)) h.1 stop
-      ∙ added_lex (expr_text e AsTerm) (more_terms_text kids) rest s (as_term e) (term_lex e (more_terms_text kids ++ rest) h.0
-      (more_terms_stop kids rest stop))
+      ∙ more_lex (codes " + ") (expr_text e AsTerm) (more_terms_text kids) rest Plus (spell_terms s) (spell_factors (as_term e))
+      (λ xs. (operators_lex xs).0) (part_lex e (more_terms_text kids ++ rest) h.0 (more_terms_stop kids rest stop)).1
 
   product_lex : (kids : Exprs) (rest : List ℕ) → AreSeveral kids → AreExprs kids → Stops rest
       → lex 0 (factors_text kids ++ rest) ≡ spell_factors (as_product kids) (lex 0 rest)
   product_lex NoExprs rest several h stop = absurd several
   product_lex (And e kids) rest several h stop =
       ap (lex 0) (append_assoc (expr_text e AsFactor) (more_factors_text kids) rest)
-      ∙ factor_lex e (more_factors_text kids ++ rest) h.0 (more_factors_stop kids rest stop)
+      ∙ (part_lex e (more_factors_text kids ++ rest) h.0 (more_factors_stop kids rest stop)).0
       ∙ sym (times_all_lex kids rest (OneFactor (as_factor e)) h.1 stop)
 
   times_all_lex : (kids : Exprs) (rest : List ℕ) (t : Factors) → AreExprs kids → Stops rest
@@ -158,15 +144,15 @@ mutual
   times_all_lex NoExprs rest t h stop = refl
   times_all_lex (And e kids) rest t h stop =
       times_all_lex kids rest (Times t (as_factor e)) h.1 stop
-      ∙ times_lex (expr_text e AsFactor) (more_factors_text kids) rest t (as_factor e) (factor_lex e (more_factors_text kids ++ rest) h.0
-      (more_factors_stop kids rest stop))
+      ∙ more_lex (codes " * ") (expr_text e AsFactor) (more_factors_text kids) rest Star (spell_factors t) (spell_factor (as_factor e))
+      (λ xs. (operators_lex xs).2) (part_lex e (more_factors_text kids ++ rest) h.0 (more_factors_stop kids rest stop)).0
 
 -- an expression and the end of its statement
 ended_lex : (e : Expr) (rest : List ℕ) → IsExpr e → lex 0 ((expr_text e AsExpr ++ with_feed (codes ";")) ++ rest) ≡ spell_terms (as_expr
     e) (Semicolon ∷ lex 0 rest)
 unfolding lex front
 ended_lex e rest h =
-    ap (lex 0) (append_assoc (expr_text e AsExpr) (with_feed (codes ";")) rest) ∙ expr_lex e (59 ∷ 10 ∷ rest) h refl
+    ap (lex 0) (append_assoc (expr_text e AsExpr) (with_feed (codes ";")) rest) ∙ (part_lex e (59 ∷ 10 ∷ rest) h refl).2
 
 let_lex : (name tail rest : List ℕ) → IsName name
     → lex 0 (((codes "let " ++ name ++ codes " = ") ++ tail) ++ rest) ≡ LetKey ∷ Word name ∷ Equals ∷ lex 0 (tail ++ rest)
@@ -215,97 +201,56 @@ joined_none : (es : Exprs) → joined es NoExprs ≡ es
 joined_none NoExprs = refl
 joined_none (And e es) = ap (λ rest. And e rest) (joined_none es)
 
--- terms of which there are several are a sum of them, and so with factors
-abbrev IsLongSum : Terms → Type 0
-IsLongSum (OneTerm t) = ⊥
-IsLongSum s = Unit {0}
+-- several terms are a sum of them, and several factors a product
+sum_tree : (f : Expr) (kids : Exprs) (s : Terms) → terms_tree (add_terms (And f kids) s) ≡ Sum (term_trees (add_terms (And f kids) s))
+sum_tree (Neg e) NoExprs s = refl
+sum_tree _ NoExprs s = refl
+sum_tree (Neg e) (And g kids) s = sum_tree g kids (Taken s (as_term e))
+sum_tree f (And g kids) s = sum_tree g kids (Added s (as_term f))
 
-long_sum : (s : Terms) → IsLongSum s → terms_tree s ≡ Sum (term_trees s)
-long_sum (OneTerm t) h = absurd h
-long_sum (Added s t) h = refl
-long_sum (Taken s t) h = refl
+product_tree : (f : Expr) (kids : Exprs) (t : Factors)
+    → factors_tree (add_factors (And f kids) t) ≡ Prod (factor_trees (add_factors (And f kids) t))
+product_tree f NoExprs t = refl
+product_tree f (And g kids) t = product_tree g kids (Times t (as_factor f))
 
-add_long : (kids : Exprs) (s : Terms) → IsLongSum s → IsLongSum (add_terms kids s)
-add_long NoExprs s h = h
-add_long (And (Num n) kids) s h = add_long kids (Added s (as_term (Num n))) tt
-add_long (And (Name b) kids) s h = add_long kids (Added s (as_term (Name b))) tt
-add_long (And (Neg e) kids) s h = add_long kids (Taken s (as_term e)) tt
-add_long (And (Sum more) kids) s h = add_long kids (Added s (as_term (Sum more))) tt
-add_long (And (Prod more) kids) s h = add_long kids (Added s (as_term (Prod more))) tt
+sum_is : (kids : Exprs) → AreSeveral kids → terms_tree (as_sum kids) ≡ Sum (term_trees (as_sum kids))
+sum_is (And e (And f kids)) h = sum_tree f kids (OneTerm (as_term e))
+sum_is _ h = absurd h
 
-abbrev IsLongProduct : Factors → Type 0
-IsLongProduct (OneFactor f) = ⊥
-IsLongProduct (Times t f) = Unit {0}
-
-long_product : (t : Factors) → IsLongProduct t → factors_tree t ≡ Prod (factor_trees t)
-long_product (OneFactor f) h = absurd h
-long_product (Times t f) h = refl
-
-times_long : (kids : Exprs) (t : Factors) → IsLongProduct t → IsLongProduct (add_factors kids t)
-times_long NoExprs t h = h
-times_long (And e kids) t h = times_long kids (Times t (as_factor e)) tt
-
-first_long : (e f : Expr) (kids : Exprs) → IsLongSum (as_sum (And e (And f kids)))
-first_long e (Num n) kids = add_long kids (Added (OneTerm (as_term e)) (as_term (Num n))) tt
-first_long e (Name b) kids = add_long kids (Added (OneTerm (as_term e)) (as_term (Name b))) tt
-first_long e (Neg f) kids = add_long kids (Taken (OneTerm (as_term e)) (as_term f)) tt
-first_long e (Sum more) kids = add_long kids (Added (OneTerm (as_term e)) (as_term (Sum more))) tt
-first_long e (Prod more) kids = add_long kids (Added (OneTerm (as_term e)) (as_term (Prod more))) tt
-
-sum_long : (kids : Exprs) → AreSeveral kids → IsLongSum (as_sum kids)
-sum_long NoExprs h = absurd h
-sum_long (And e NoExprs) h = absurd h
-sum_long (And e (And f kids)) h = first_long e f kids
-
-product_long : (kids : Exprs) → AreSeveral kids → IsLongProduct (as_product kids)
-product_long NoExprs h = absurd h
-product_long (And e NoExprs) h = absurd h
-product_long (And e (And f kids)) h = times_long kids (Times (OneFactor (as_factor e)) (as_factor f)) tt
+product_is : (kids : Exprs) → AreSeveral kids → factors_tree (as_product kids) ≡ Prod (factor_trees (as_product kids))
+product_is (And e (And f kids)) h = product_tree f kids (OneFactor (as_factor e))
+product_is _ h = absurd h
 
 mutual
-  factor_back : (e : Expr) → IsExpr e → factor_tree (as_factor e) ≡ e
-  factor_back (Num n) h = refl
-  factor_back (Name bytes) h = refl
-  factor_back (Neg e) h = ap Neg (factor_back e h)
-  factor_back (Sum kids) h = long_sum (as_sum kids) (sum_long kids h.0) ∙ ap Sum (sum_back kids h.0 h.1)
-  factor_back (Prod kids) h = long_product (as_product kids) (product_long kids h.0) ∙ ap Prod (product_back kids h.0 h.1)
-
-  term_back : (e : Expr) → IsExpr e → factors_tree (as_term e) ≡ e
-  term_back (Num n) h = refl
-  term_back (Name bytes) h = refl
-  term_back (Neg e) h = ap Neg (factor_back e h)
-  term_back (Sum kids) h = long_sum (as_sum kids) (sum_long kids h.0) ∙ ap Sum (sum_back kids h.0 h.1)
-  term_back (Prod kids) h = long_product (as_product kids) (product_long kids h.0) ∙ ap Prod (product_back kids h.0 h.1)
-
-  expr_back : (e : Expr) → IsExpr e → terms_tree (as_expr e) ≡ e
-  expr_back (Num n) h = refl
-  expr_back (Name bytes) h = refl
-  expr_back (Neg e) h = ap Neg (factor_back e h)
-  expr_back (Sum kids) h = long_sum (as_sum kids) (sum_long kids h.0) ∙ ap Sum (sum_back kids h.0 h.1)
-  expr_back (Prod kids) h = long_product (as_product kids) (product_long kids h.0) ∙ ap Prod (product_back kids h.0 h.1)
+  part_back : (e : Expr) → IsExpr e → (factor_tree (as_factor e) ≡ e) × (factors_tree (as_term e) ≡ e) × (terms_tree (as_expr e) ≡ e)
+  part_back (Num n) h = (refl, refl, refl)
+  part_back (Name bytes) h = (refl, refl, refl)
+  part_back (Neg e) h = let p = ap Neg (part_back e h).0 in (p, p, p)
+  part_back (Sum kids) h = let p = sum_is kids h.0 ∙ ap Sum (sum_back kids h.0 h.1) in (p, p, p)
+  part_back (Prod kids) h = let p = product_is kids h.0 ∙ ap Prod (product_back kids h.0 h.1) in (p, p, p)
 
   sum_back : (kids : Exprs) → AreSeveral kids → AreExprs kids → term_trees (as_sum kids) ≡ kids
   sum_back NoExprs several h = absurd several
-  sum_back (And e kids) several h = add_back kids (OneTerm (as_term e)) h.1 ∙ ap (λ f. And f kids) (term_back e h.0)
+  sum_back (And e kids) several h = add_back kids (OneTerm (as_term e)) h.1 ∙ ap (λ f. And f kids) (part_back e h.0).1
 
   add_back : (kids : Exprs) (s : Terms) → AreExprs kids → term_trees (add_terms kids s) ≡ joined (term_trees s) kids
   add_back NoExprs s h = sym (joined_none (term_trees s))
   add_back (And (Neg e) kids) s h =
       add_back kids (Taken s (as_term e)) h.1 ∙ with_joined (term_trees s) kids (Neg (factors_tree (as_term e)))
-      ∙ ap (λ f. joined (term_trees s) (And (Neg f) kids)) (term_back e h.0)
+      ∙ ap (λ f. joined (term_trees s) (And (Neg f) kids)) (part_back e h.0).1
   add_back (And e kids) s h =
       add_back kids (Added s (as_term e)) h.1 ∙ with_joined (term_trees s) kids (factors_tree (as_term e))
-      ∙ ap (λ f. joined (term_trees s) (And f kids)) (term_back e h.0)
+      ∙ ap (λ f. joined (term_trees s) (And f kids)) (part_back e h.0).1
 
   product_back : (kids : Exprs) → AreSeveral kids → AreExprs kids → factor_trees (as_product kids) ≡ kids
   product_back NoExprs several h = absurd several
-  product_back (And e kids) several h = times_back kids (OneFactor (as_factor e)) h.1 ∙ ap (λ f. And f kids) (factor_back e h.0)
+  product_back (And e kids) several h = times_back kids (OneFactor (as_factor e)) h.1 ∙ ap (λ f. And f kids) (part_back e h.0).0
 
   times_back : (kids : Exprs) (t : Factors) → AreExprs kids → factor_trees (add_factors kids t) ≡ joined (factor_trees t) kids
   times_back NoExprs t h = sym (joined_none (factor_trees t))
   times_back (And e kids) t h =
       times_back kids (Times t (as_factor e)) h.1 ∙ with_joined (factor_trees t) kids (factor_tree (as_factor e))
-      ∙ ap (λ f. joined (factor_trees t) (And f kids)) (factor_back e h.0)
+      ∙ ap (λ f. joined (factor_trees t) (And f kids)) (part_back e h.0).0
 
 abbrev joined_stmts : Stmts → Stmts → Stmts
 joined_stmts NoStmts more = more
@@ -321,8 +266,8 @@ joined_stmts_none (Then s ss) = ap (λ rest. Then s rest) (joined_stmts_none ss)
 
 mutual
   line_back : (s : Stmt) → IsStmt s → line_tree (as_line s) ≡ s
-  line_back (Let name e) h = ap (λ f. Let name f) (expr_back e h.1)
-  line_back (Show e) h = ap (λ f. Show f) (expr_back e h)
+  line_back (Let name e) h = ap (λ f. Let name f) (part_back e h.1).2
+  line_back (Show e) h = ap (λ f. Show f) (part_back e h).2
   line_back (Block body) h = ap Block (lines_back body Empty h)
 
   lines_back : (body : Stmts) (p : Program) → AreStmts body → trees_of (add_lines body p) ≡ joined_stmts (trees_of p) body
@@ -333,13 +278,9 @@ mutual
 
 -- ---- The whole
 
-append_nothing : (xs : List ℕ) → xs ++ [] ≡ xs
-append_nothing [] = refl
-append_nothing (x ∷ xs) = ap (λ more. x ∷ more) (append_nothing xs)
-
 pub text_tokens : (t : Stmts) → AreStmts t → spell (add_lines t Empty) [] ≡ without_places (tokens (text t))
 unfolding lex
-text_tokens t h = lines_lex t [] Empty h ∙ ap (lex 0) (append_nothing (text t)) ∙ sym (lex_is 0 0 (text t))
+text_tokens t h = lines_lex t [] Empty h ∙ ap (lex 0) (append-nil (text t)) ∙ sym (lex_is 0 0 (text t))
 
 pub text_program : (t : Stmts) → AreStmts t → (n : ℕ) × IsProgram (without_places (tokens (text t))) t n
 text_program t h = (
