@@ -3,6 +3,7 @@ use Rattle.std.proofs.Common.{◌≡◌, ℕ, Option, Some, None, List, [], ◌�
 use Rattle.tree_rules.specs.Tokens.{Token, LetKey, Word, Number, Plus, Minus, Star, LeftParen, RightParen, LeftBrace, RightBrace, Equals, Semicolon}
 use Rattle.tree_rules.specs.Trees.{Stmts}
 use Rattle.tree_rules.specs.Grammar.{Factor, ANumber, AName, InParens, Negated, Factors, OneFactor, Times, Terms, OneTerm, Added, Taken, Line, LetLine, ShowLine, BlockLine, Program, Empty, Next, spell_factor, spell_factors, spell_terms, spell_line, spell, IsProgram, trees_of, nest}
+use Rattle.tree_rules.proofs.StepLemmas.{terms_begin}
 use Rattle.tree_rules.proofs.Holes.{LineHole, InProgram, InBlock, Owner, LetOf, ShowOf, FactorHole, First, Behind, Signed, TermHole, FirstTerm, ToAdd, ToTake, ExprHole, Within, Of, owned}
 use Rattle.tree_rules.proofs.Places.{Place, LinePlace, NamePlace, EqualsPlace, FactorPlace, BehindPlace, factor_done, terms_done, around, line_added, shown}
 
@@ -119,24 +120,11 @@ mutual
   terms_read (Taken s t) h more = terms_read s h (Minus ∷ spell_factors t more) ∙ takes s h (spell_factors t more)
       ∙ factors_read t (ToTake s h) more
 
-mutual
-  unfolding reads go go_line go_factor and_go
-
-  factor_begins : (f : Factor) (h : LineHole) (more : List Token)
-      → reads (LinePlace h) (spell_factor f more) ≡ reads (FactorPlace (shown h)) (spell_factor f more)
-  factor_begins (AName bytes) h more = refl
-  factor_begins _ h more = refl
-
-  factors_begin : (t : Factors) (h : LineHole) (more : List Token)
-      → reads (LinePlace h) (spell_factors t more) ≡ reads (FactorPlace (shown h)) (spell_factors t more)
-  factors_begin (OneFactor f) h more = factor_begins f h more
-  factors_begin (Times t f) h more = factors_begin t h (Star ∷ spell_factor f more)
-
-  terms_begin : (s : Terms) (h : LineHole) (more : List Token)
-      → reads (LinePlace h) (spell_terms s more) ≡ reads (FactorPlace (shown h)) (spell_terms s more)
-  terms_begin (OneTerm t) h more = factors_begin t h more
-  terms_begin (Added s t) h more = terms_begin s h (Plus ∷ spell_factors t more)
-  terms_begin (Taken s t) h more = terms_begin s h (Minus ∷ spell_factors t more)
+value_begins : (s : Terms) (h : LineHole) (more : List Token)
+    → reads (LinePlace h) (spell_terms s more) ≡ reads (FactorPlace (shown h)) (spell_terms s more)
+unfolding reads go go_line go_factor and_go
+value_begins s h = terms_begin (λ ts. reads (LinePlace h) ts ≡ reads (FactorPlace (shown h)) ts) (λ n ts. refl) (λ bytes ts. refl)
+    (λ ts. refl) (λ ts. refl) s
 
 -- with statements of a program after those before a place
 with_lines : LineHole → Program → LineHole
@@ -160,7 +148,7 @@ mutual
       l)) more
   line_reads (LetLine name s) h more = terms_read s (Of (LetOf name) h) (Semicolon ∷ more) ∙ ends s (LetOf name) h more
   line_reads (ShowLine s) h more =
-      terms_begin s h (Semicolon ∷ more) ∙ terms_read s (Of ShowOf h) (Semicolon ∷ more) ∙ ends s ShowOf h more
+      value_begins s h (Semicolon ∷ more) ∙ terms_read s (Of ShowOf h) (Semicolon ∷ more) ∙ ends s ShowOf h more
   line_reads (BlockLine p) h more = program_reads p (InBlock Empty h) (RightBrace ∷ more) ∙ ap (λ g. reads (LinePlace g) (RightBrace ∷
       more)) (in_block p h)
 
