@@ -1,5 +1,5 @@
 -- Each state that the machine reaches is that of a place in a program.
-use Rattle.std.proofs.Common.{◌≡◌, ℕ, suc, ◌+◌, ◌≤◌, Some, List, ◌∷◌, length, refl, sym, ap, ◌∙◌, arith}
+use Rattle.std.proofs.Common.{◌≡◌, ℕ, ◌+◌, ◌≤◌, Some, List, ◌∷◌, length, refl, sym, ap, ◌∙◌, subst, arith}
 use Rattle.std.proofs.lemmas.Option.{none-some, same_Some}
 use Rattle.tree_rules.specs.Tokens.{Token, LetKey, Word, Number, Plus, Minus, Star, LeftParen, RightParen, LeftBrace, RightBrace, Equals, Semicolon}
 use Rattle.tree_rules.specs.Grammar.{Factor, ANumber, AName, InParens, Negated, Factors, OneFactor, Times, Terms, OneTerm, Added, Taken, Line, LetLine, ShowLine, BlockLine, Empty, Next, spell_factor, spell_factors, spell_terms, spell_line, factor_nest, factors_nest, terms_nest, line_nest}
@@ -64,9 +64,8 @@ factor_done_state (Signed h) f = factor_done_state h (Negated f)
 
 factor_done_before : (h : FactorHole) (f : Factor) (more : List Token) → before (factor_done h f) more ≡ before_factor h (spell_factor f
     more)
-factor_done_before (First h) f more = refl
-factor_done_before (Behind t h) f more = refl
 factor_done_before (Signed h) f more = factor_done_before h (Negated f) more
+factor_done_before _ f more = refl
 
 factor_done_fits : (h : FactorHole) (f : Factor) (most : ℕ) → FactorFits h most → factor_nest f + length (open_at_factor h) ≤ most
     → PlaceFits most (factor_done h f)
@@ -126,16 +125,24 @@ pub record Comes (most : ℕ) (tokens : List Token → List Token) (Fitted : Typ
   pub before_is : (more : List Token) → before place more ≡ tokens more
   pub fits : Fitted → length next.opens ≤ most → PlaceFits most place
 
+comes : {most : ℕ} {tokens : List Token → List Token} {Fitted : Type 0} {next : State} (place : Place)
+    → Some (state_at place) ≡ Some next → ((more : List Token) → before place more ≡ tokens more)
+    → (Fitted → length (state_at place).opens ≤ most → PlaceFits most place) → Comes most tokens Fitted next
+comes {most} {next = next} place e before_is fits =
+    let is = same_Some (state_at place) next e in
+    record {
+      place = place;
+      state_is = is;
+      before_is = before_is;
+      fits = λ fitted low. fits fitted (subst (λ (s : State). length s.opens ≤ most) (sym is) low);
+    }
+
 comes_factor : (most : ℕ) (h : FactorHole) (f : Factor) (next : State) → Some (state BehindFactor (signs_ended (open_at_factor h))) ≡
     Some next
     → Comes most (λ more. before_factor h (spell_factor f more)) (FactorFits h most × (factor_nest f + length (open_at_factor h) ≤ most))
     next
-comes_factor most h f next e = record {
-  place = factor_done h f;
-  state_is = factor_done_state h f ∙ same_Some _ next e;
-  before_is = factor_done_before h f;
-  fits = λ fits low. factor_done_fits h f most fits.0 fits.1;
-}
+comes_factor most h f next e = comes (factor_done h f) (ap Some (factor_done_state h f) ∙ e) (factor_done_before h f)
+    (λ fits low. factor_done_fits h f most fits.0 fits.1)
 
 -- at another place, with other premises that come to the same
 comes_as : (most : ℕ) (tokens others : List Token → List Token) (Fitted Given : Type 0) (next : State)
@@ -153,18 +160,8 @@ at_factor most h (Number n) next e = comes_as most _ _ _ _ next (λ more. refl) 
     most h (ANumber n) next e)
 at_factor most h (Word bytes) next e = comes_as most _ _ _ _ next (λ more. refl) (λ fits. (fits.1, omega (arith, fits.0))) (comes_factor
     most h (AName bytes) next e)
-at_factor most h LeftParen next e = record {
-  place = FactorPlace (First (FirstTerm (Within h)));
-  state_is = same_Some _ next e;
-  before_is = λ more. refl;
-  fits = λ fits low. let is : suc (length (open_at_factor h)) ≤ most = rw (sym (same_Some _ next e)) at low in (is, (is, fits.1));
-}
-at_factor most h Minus next e = record {
-  place = FactorPlace (Signed h);
-  state_is = same_Some _ next e;
-  before_is = λ more. refl;
-  fits = λ fits low. let is : suc (length (open_at_factor h)) ≤ most = rw (sym (same_Some _ next e)) at low in (is, (is, fits.1));
-}
+at_factor most h LeftParen next e = comes (FactorPlace (First (FirstTerm (Within h)))) e (λ more. refl) (λ fits low. (low, (low, fits.1)))
+at_factor most h Minus next e = comes (FactorPlace (Signed h)) e (λ more. refl) (λ fits low. (low, (low, fits.1)))
 at_factor most h _ next e = absurd (none-some next e)
 
 -- an expression begins where a statement may
@@ -174,30 +171,14 @@ shown h = First (FirstTerm (Of ShowOf h))
 at_brace : (most : ℕ) (h : LineHole) (next : State) → close_brace (open_at_line h) ≡ Some next
     → Comes most (λ more. before_line h (RightBrace ∷ more)) (PlaceFits most (LinePlace h)) next
 at_brace most (InProgram p) next e = absurd (none-some next e)
-at_brace most (InBlock p h) next e = record {
-  place = LinePlace (line_added h (BlockLine p));
-  state_is = ap (state AtLine) (line_added_open h (BlockLine p)) ∙ same_Some _ next e;
-  before_is = line_added_before h (BlockLine p);
-  fits = λ fits low. (
-    rw line_added_open (omega (arith, fits.0)),
-    line_added_fits h (BlockLine p) most fits.1.1 (omega (arith, fits.1.0)),
-  );
-}
+at_brace most (InBlock p h) next e = comes (LinePlace (line_added h (BlockLine p)))
+    (ap (λ os. Some (state AtLine os)) (line_added_open h (BlockLine p)) ∙ e) (line_added_before h (BlockLine p))
+    (λ fits low. (low, line_added_fits h (BlockLine p) most fits.1.1 (omega (arith, fits.1.0))))
 
 at_line : (most : ℕ) (h : LineHole) (t : Token) (next : State) → step_in AtLine (open_at_line h) t ≡ Some next
     → Comes most (λ more. before_line h (t ∷ more)) (PlaceFits most (LinePlace h)) next
-at_line most h LetKey next e = record {
-  place = NamePlace h;
-  state_is = same_Some _ next e;
-  before_is = λ more. refl;
-  fits = λ fits low. fits;
-}
-at_line most h LeftBrace next e = record {
-  place = LinePlace (InBlock Empty h);
-  state_is = same_Some _ next e;
-  before_is = λ more. refl;
-  fits = λ fits low. let is : suc (length (open_at_line h)) ≤ most = rw (sym (same_Some _ next e)) at low in (is, (omega arith, fits.1));
-}
+at_line most h LetKey next e = comes (NamePlace h) e (λ more. refl) (λ fits low. fits)
+at_line most h LeftBrace next e = comes (LinePlace (InBlock Empty h)) e (λ more. refl) (λ fits low. (low, (omega (arith, low), fits.1)))
 at_line most h RightBrace next e = at_brace most h next e
 at_line most h (Word bytes) next e = at_factor most (shown h) (Word bytes) next e
 at_line most h (Number n) next e = at_factor most (shown h) (Number n) next e
@@ -207,22 +188,13 @@ at_line most h _ next e = absurd (none-some next e)
 
 at_name : (most : ℕ) (h : LineHole) (t : Token) (next : State) → step_in AtName (open_at_line h) t ≡ Some next
     → Comes most (λ more. before_line h (LetKey ∷ t ∷ more)) (PlaceFits most (LinePlace h)) next
-at_name most h (Word bytes) next e = record {
-  place = EqualsPlace h bytes;
-  state_is = same_Some _ next e;
-  before_is = λ more. refl;
-  fits = λ fits low. fits;
-}
+at_name most h (Word bytes) next e = comes (EqualsPlace h bytes) e (λ more. refl) (λ fits low. fits)
 at_name most h _ next e = absurd (none-some next e)
 
 at_equals : (most : ℕ) (h : LineHole) (name : List ℕ) (t : Token) (next : State) → step_in AtEquals (open_at_line h) t ≡ Some next
     → Comes most (λ more. before_line h (LetKey ∷ Word name ∷ t ∷ more)) (PlaceFits most (LinePlace h)) next
-at_equals most h name Equals next e = record {
-  place = FactorPlace (First (FirstTerm (Of (LetOf name) h)));
-  state_is = same_Some _ next e;
-  before_is = λ more. refl;
-  fits = λ fits low. fits;
-}
+at_equals most h name Equals next e =
+    comes (FactorPlace (First (FirstTerm (Of (LetOf name) h)))) e (λ more. refl) (λ fits low. fits)
 at_equals most h name _ next e = absurd (none-some next e)
 
 abbrev TermsFit : ExprHole → Terms → ℕ → Type 0
@@ -238,9 +210,9 @@ closes_paren most (Within h) s next e =
     comes_as most _ _ _ _ next (λ more. refl) (λ fits. (fits.1.1, omega (arith, fits.0))) (comes_factor most h (InParens s) next e)
 closes_paren most (Of owner h) s next e = absurd (no_line_paren h next e)
 
-line_end_state : (h : LineHole) (next : State) → end_line (open_at_line h) ≡ Some next → state AtLine (open_at_line h) ≡ next
-line_end_state (InProgram p) next e = same_Some _ next e
-line_end_state (InBlock p h) next e = same_Some _ next e
+line_end : (h : LineHole) → end_line (open_at_line h) ≡ Some (state AtLine (open_at_line h))
+line_end (InProgram p) = refl
+line_end (InBlock p h) = refl
 
 owned_before : (owner : Owner) (h : LineHole) (s : Terms) (more : List Token)
     → before_line (line_added h (owned owner s)) more ≡ before_line h (owner_tokens owner (spell_terms s (Semicolon ∷ more)))
@@ -255,35 +227,19 @@ owned_fits ShowOf h s most fits low = line_added_fits h (ShowLine s) most fits l
 ends_line : (most : ℕ) (h : ExprHole) (s : Terms) (next : State) → end_line (open_at_expr h) ≡ Some next
     → Comes most (λ more. before_expr h (spell_terms s (Semicolon ∷ more))) (TermsFit h s most) next
 ends_line most (Within h) s next e = absurd (none-some next e)
-ends_line most (Of owner h) s next e = record {
-  place = LinePlace (line_added h (owned owner s));
-  state_is = ap (state AtLine) (line_added_open h (owned owner s)) ∙ line_end_state h next e;
-  before_is = owned_before owner h s;
-  fits = λ fits low. (rw line_added_open (omega (arith, fits.0)), owned_fits owner h s most fits.1 fits.0);
-}
+ends_line most (Of owner h) s next e = comes (LinePlace (line_added h (owned owner s)))
+    (ap (λ os. Some (state AtLine os)) (line_added_open h (owned owner s)) ∙ sym (line_end h) ∙ e) (owned_before owner h s)
+    (λ fits low. (low, owned_fits owner h s most fits.1 fits.0))
 
 at_behind : (most : ℕ) (f : Factors) (h : TermHole) (t : Token) (next : State) → step_in BehindFactor (open_at_term h) t ≡ Some next
     → Comes most (λ more. before_term h (spell_factors f (t ∷ more))) (PlaceFits most (BehindPlace f h)) next
-at_behind most f h Star next e = record {
-  place = FactorPlace (Behind f h);
-  state_is = same_Some _ next e;
-  before_is = λ more. refl;
-  fits = λ fits low. (omega (arith, fits.0), (fits.0, fits.1));
-}
-at_behind most f h Plus next e =
-    record {
-      place = FactorPlace (First (ToAdd (terms_done h f) (around h)));
-      state_is = ap (state AtFactor) (terms_open h) ∙ same_Some _ next e;
-      before_is = λ more. terms_before h f (Plus ∷ more);
-      fits = λ fits low. let all = terms_fit h f most fits.0 fits.1 in (omega (arith, all.0), all);
-    }
-at_behind most f h Minus next e =
-    record {
-      place = FactorPlace (First (ToTake (terms_done h f) (around h)));
-      state_is = ap (state AtFactor) (terms_open h) ∙ same_Some _ next e;
-      before_is = λ more. terms_before h f (Minus ∷ more);
-      fits = λ fits low. let all = terms_fit h f most fits.0 fits.1 in (omega (arith, all.0), all);
-    }
+at_behind most f h Star next e = comes (FactorPlace (Behind f h)) e (λ more. refl) (λ fits low. (low, (fits.0, fits.1)))
+at_behind most f h Plus next e = comes (FactorPlace (First (ToAdd (terms_done h f) (around h))))
+    (ap (λ os. Some (state AtFactor os)) (terms_open h) ∙ e) (λ more. terms_before h f (Plus ∷ more))
+    (λ fits low. (low, terms_fit h f most fits.0 fits.1))
+at_behind most f h Minus next e = comes (FactorPlace (First (ToTake (terms_done h f) (around h))))
+    (ap (λ os. Some (state AtFactor os)) (terms_open h) ∙ e) (λ more. terms_before h f (Minus ∷ more))
+    (λ fits low. (low, terms_fit h f most fits.0 fits.1))
 at_behind most f h RightParen next e =
     comes_as most _ _ _ _ next (λ more. terms_before h f (RightParen ∷ more)) (λ fits. terms_fit h f most fits.0 fits.1)
     (closes_paren most (around h) (terms_done h f) next (ap close_paren (terms_open h) ∙ e))
