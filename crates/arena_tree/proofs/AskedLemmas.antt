@@ -1,5 +1,5 @@
 -- Blocks that the tree of a text asks for.
-use Rattle.std.proofs.Common.{◌≡◌, ℕ, suc, ◌+◌, ◌*◌, ◌<◌, ◌≤◌, ◌∙◌, inl, inr, List, length, max, arith}
+use Rattle.std.proofs.Common.{◌≡◌, ℕ, suc, ◌+◌, ◌*◌, ◌<◌, ◌≤◌, ◌∙◌, inl, inr, refl, List, length, max, arith}
 use Rattle.std.proofs.Math.Nat.{pow-suc}
 use Rattle.arena_chunks.specs.Memory.{Memory}
 use Rattle.arena_items.specs.Denied.{TextOf}
@@ -7,9 +7,10 @@ use Rattle.arena_vec.specs.declared.vec.Vec.{Vec}
 use Rattle.tree_rules.specs.Tokens.{Word}
 use Rattle.tree_rules.specs.Reading.{State}
 use Rattle.tree_nodes.specs.declared.node.Node.{Node}
+use Rattle.tree_nodes.proofs.RowLemmas.{read_length}
 use Rattle.tree_nodes.proofs.SubtreeLemmas.{row_length}
 use Rattle.tree_nodes.proofs.WalkLemmas.{list_len}
-use Rattle.arena_tree.specs.Subtrees.{IsRowBuilt}
+use Rattle.arena_tree.specs.Subtrees.{IsRowBuilt, IsRowRead}
 use Rattle.arena_tree.specs.Parts.{IsTokenAt, Reads}
 use Rattle.arena_tree.specs.Layouts.{ListOf, LongerList, ListFor, IsDoubled, IsRoomFor, Entry, spell_to, row_before, AskedFor}
 
@@ -43,11 +44,23 @@ module _ {X : Type 0} {bytes : List ℕ} {at end : ℕ} {before behind : X → S
         omega (arith, doubled.0, few, within, doubled.2, pow-suc 2 doubled.1),
       )) size align longer.1
 
-  pub asked_few : {len cap more most room : ℕ} → (cap ≡ 0 → IsRoomFor (length (row_before entry) + 1) room) → IsDoubled most cap
+  asked_few : {len cap more most room : ℕ} → (cap ≡ 0 → IsRoomFor (length (row_before entry) + 1) room) → IsDoubled most cap
       → more ≤ most → len ≤ cap → len + more ≤ length (row_before entry) + 1 → (size align : ℕ) → ListFor len cap more room size align
       → AskedFor bytes size align
   asked_few {room = room} first doubled few within fits size align (inl list) = asked_list room (first list.0) size align list.1
   asked_few first doubled few within fits size align (inr longer) = asked_doubled longer.0 doubled few within fits size align longer.1
+
+  -- the list of all children, where this is the last one; and of four, where this one is behind them
+  module _ {old new : Memory} {list : Vec Node} {ns : List Node} (row : IsRowRead (row_before entry) old new list ns)
+      (doubled : IsDoubled 4 list.raw.cap) (within : list.raw.len ≤ list.raw.cap) where
+    pub asked_all : {more room : ℕ} → more ≡ length ns + 1 → room ≡ more → room ≤ 4 → (size align : ℕ)
+        → ListFor list.raw.len list.raw.cap more room size align → AskedFor bytes size align
+    asked_all is same few = asked_few (λ none. inl (omega (arith, none, within, read_length row, is, same))) doubled
+        (omega (arith, same, few)) within (omega (arith, read_length row, is))
+
+    pub asked_four : length ns ≡ 4 → (size align : ℕ) → ListFor list.raw.len list.raw.cap (length ns) 8 size align → AskedFor bytes size align
+    asked_four four = asked_few (λ none. inr (omega (arith, none, within, read_length row, four), 3, refl)) doubled (omega (arith, four))
+        within (omega (arith, read_length row))
 
   -- the same for one node, of those in the list
   pub asked_longer : {old new : Memory} {list : Vec Node} → IsRowBuilt (row_before entry) old new list → IsDoubled 1 list.raw.cap

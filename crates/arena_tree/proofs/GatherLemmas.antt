@@ -1,104 +1,156 @@
 -- Children whose nodes are gathered before they go into a list.
-use Rattle.std.proofs.Common.{◌≡◌, ℕ, ◌+◌, ◌-◌, ◌*◌, ◌<◌, ◌≤◌, Bool, sym, subst, List, [], ◌∷◌, ◌++◌, length, length-set, length-take, take, set, arith, Ok, None}
-use Rattle.std.proofs.lemmas.List.{take_all, take-set, take_more_set}
+use Rattle.std.proofs.Common.{◌≡◌, ℕ, ◌+◌, ◌-◌, ◌*◌, ◌<◌, ◌≤◌, Bool, refl, sym, ◌∙◌, subst, List, [], ◌∷◌, ◌++◌, length, length-set, length-take, get_or, take, set, arith, Ok, Option, None}
+use Rattle.std.proofs.lemmas.List.{take_all, take-set, take_more_set, get_or-set_same}
 use Rattle.arena_chunks.specs.Memory.{Memory}
-use Rattle.arena_chunks.specs.Frame.{Frame}
 use Rattle.arena_chunks.specs.Source.{View}
 use Rattle.arena_items.specs.Denied.{Layouts}
+use Rattle.arena_items.specs.declared.room.AllocError.{AllocError}
 use Rattle.arena_vec.specs.declared.vec.Vec.{Vec}
-use Rattle.tree_rules.specs.Tokens.{Token, Star}
-use Rattle.tree_rules.specs.Trees.{Exprs}
+use Rattle.tree_rules.specs.Tokens.{Token}
+use Rattle.tree_rules.specs.Trees.{Expr, Exprs}
+use Rattle.tree_rules.specs.Grammar.{Times, spell_factors, spell_terms, factor_tree, factors_tree, factor_trees, term_trees}
 use Rattle.tree_rules.specs.Refusals.{most_nest}
 use Rattle.tree_nodes.specs.declared.node.Node.{Node}
-use Rattle.tree_nodes.proofs.SpendingLemmas.{spends_then, spends_more, asks_any}
-use Rattle.tree_nodes.proofs.RowLemmas.{read_none, read_more}
-use Rattle.arena_tree.specs.Subtrees.{Subtree, IsTreePlaced, IsRowBuilt, IsRowRead, expr_row}
-use Rattle.arena_tree.specs.Parts.{IsTokenAt, IsFactor, IsTerm, Reads, terms_at, sign_of}
-use Rattle.arena_tree.specs.Spending.{Spends, SpendsUpTo, IsFirstFactor, IsFirstTerm, AreRead, most_for, node_cost, credit}
-use Rattle.arena_tree.proofs.PartLemmas.{reads_then, reads_plain, reads_star, reads_sign}
+use Rattle.tree_nodes.proofs.SpendingLemmas.{spends_then, spends_more, asks_any, frees_then}
+use Rattle.tree_nodes.proofs.RowLemmas.{read_none, read_more, read_frame, exprs_more}
+use Rattle.arena_tree.specs.TreesAt.{IsPlaced}
+use Rattle.arena_tree.specs.Subtrees.{Subtree, OfExpr, IsTreePlaced, IsRowBuilt, IsRowRead, expr_row}
+use Rattle.arena_tree.specs.Parts.{IsFactor, IsTerm, Reads, terms_at, terms_behind, signed_tree}
+use Rattle.arena_tree.specs.Layouts.{AskedFor}
+use Rattle.arena_tree.specs.Spending.{Spends, SpendsUpTo, IsFirst, AreRead, FactorsRead, TermsRead, most_for, node_cost, credit}
+use Rattle.arena_tree.proofs.PartLemmas.{reads_then, reads_plain, reads_terms, terms_more, joined}
 
 -- the first child, behind which an operator comes
-module _ {deep at end next : ℕ} {src : List ℕ} {old now : View} {n : Node} (nest : deep ≤ most_nest) (spends : SpendsUpTo at src old now (Ok end)) where
-  pub first_factor : IsFactor deep src at end old.memory now.memory n → IsTokenAt src end Star next → IsFirstFactor deep src at next old now n
-  first_factor k star = record {
-    part = k.part;
-    read = reads_then (reads_plain nest k.read) (reads_star nest star);
-    long = omega (arith, k.later, star.later);
-    placed = k.placed;
-    spends = asks_any (spends_more spends (omega (arith, star.later)) (omega (arith, k.later, star.later)));
-  }
+pub first_child : {P : Type 0} {tree : P → Expr} {spelled : P → List Token → List Token} {operator : Token} {deep at end next : ℕ}
+    {src : List ℕ} {old now : View} {n : Node} → SpendsUpTo at src old now (Ok end) → (part : P)
+    → Reads src at end (spelled part) (terms_at deep) (terms_behind deep) → IsPlaced (tree part) old.memory now.memory n
+    → Reads src end next (λ more. operator ∷ more) (terms_behind deep) (terms_at deep)
+    → IsFirst tree spelled operator deep src at next old now n
+first_child spends part read placed operator = record {
+  part = part;
+  read = reads_then read operator;
+  long = omega (arith, read.later, operator.later);
+  placed = placed;
+  spends = asks_any (spends_more spends (omega (arith, operator.later)) (omega (arith, read.later, operator.later)));
+}
 
-  pub first_term : (minus : Bool) → IsTerm deep src at end old.memory now.memory n → IsTokenAt src end (sign_of minus) next
-      → IsFirstTerm minus deep src at next old now n
-  first_term minus k sign = record {
-    part = k.part;
-    read = reads_then k.read (reads_sign nest minus sign);
-    long = omega (arith, k.later, sign.later);
-    placed = k.placed;
-    spends = asks_any (spends_more spends (omega (arith, sign.later)) (omega (arith, k.later, sign.later)));
-  }
+pub set_twice : {many : ℕ} (nodes : List Node) (count : ℕ) (n m : Node) → length nodes ≡ many → length (set (set nodes count n) count m) ≡ many
+set_twice nodes count n m long = length-set (set nodes count n) count m ∙ length-set nodes count n ∙ long
 
--- ---- One more node beside the list
+-- Children, and one more up to a byte. The nodes of the first are in a list, and its node is the last of these others.
+pub record AreBehind {P : Type 0} (trees : P → Exprs) (spelled : P → List Token → List Token) (part : P) (deep : ℕ) (bytes : List ℕ)
+    (from end : ℕ) (old now : View) (list : Vec Node) (front nodes : List Node) : Type 0 where
+  pub read : Reads bytes from end (spelled part) (terms_at deep) (terms_behind deep)
+  pub open read use *
+  pub row : IsRowRead (expr_row (trees part)) old.memory now.memory list nodes
+  pub more : length nodes ≡ length front + 1
+  pub few : 2 * (list.raw.len + length nodes) ≤ end - from + 1
+  pub spends : Spends (AskedFor bytes) (most_for (end - from)) 0 (1177 + (credit list + node_cost * length front)) old now None
 
-module _ {ts : List Subtree} {old : Memory} {v : Vec Node} (nodes : List Node) (count : ℕ) where
-  pub row_next : {one two : Memory} (t : Subtree) (n : Node) → count < length nodes → IsRowRead ts old one v (take count nodes)
-      → IsTreePlaced t one two n → IsRowRead (ts ++ t ∷ []) old two v (take (count + 1) (set nodes count n))
-  row_next {two = two} t n room row placed =
-      subst (λ ns. IsRowRead (ts ++ t ∷ []) old two v ns) (sym (take_more_set nodes count n room)) (read_more t n row placed)
+-- ---- One more child
 
-  -- the last for which there is room
-  pub row_last : {one two : Memory} (t : Subtree) (n : Node) → length nodes ≡ count + 1 → IsRowRead ts old one v (take count nodes)
-      → IsTreePlaced t one two n → IsRowRead (ts ++ t ∷ []) old two v (set nodes count n)
-  row_last {two = two} t n full row placed = subst (λ ns. IsRowRead (ts ++ t ∷ []) old two v ns)
-      (take_all (count + 1) (set nodes count n) (omega (arith, length-set nodes count n, full)))
-      (row_next t n (omega (arith, full)) row placed)
+-- It may be negated, which leaves less.
+pub kid_read : {P : Type 0} {trees : P → Exprs} {spelled : P → List Token → List Token} {operator : Token} {deep from here end : ℕ}
+    {src : List ℕ} {old one two : View} {list : Vec Node} {nodes : List Node}
+    → AreRead trees spelled operator deep src from here old one list nodes → SpendsUpTo here src one two (Ok end) → here < end
+    → Spends (AskedFor src) (most_for (end - from)) 0 (1536 + (credit list + node_cost * length nodes)) old two None
+kid_read r kid later = spends_then r.spends kid (read_frame r.row) (omega (arith, later)) (omega (arith, r.later, later))
+    (omega (arith, r.later, later))
 
-  -- a node behind them is written again
-  pub row_again : {one : Memory} (n : Node) → IsRowRead ts old one v (take count nodes) → IsRowRead ts old one v (take count (set nodes count n))
-  row_again {one} n = subst (λ ns. IsRowRead ts old one v ns) (sym (take-set nodes count n))
+module _ (nodes : List Node) (count : ℕ) (low : count < 4) (four : length nodes ≡ 4) where
+  row_next : {ts : List Subtree} {old one two : Memory} {v : Vec Node} (t : Subtree) (n : Node) (others : List Node)
+      → length others ≡ length nodes → IsRowRead ts old one v (take count others) → IsTreePlaced t one two n
+      → IsRowRead (ts ++ t ∷ []) old two v (take (count + 1) (set others count n))
+  row_next {ts} {old} {two = two} {v} t n others same row placed = subst (λ ns. IsRowRead (ts ++ t ∷ []) old two v ns)
+      (sym (take_more_set others count n (omega (arith, low, four, same)))) (read_more t n row placed)
 
--- ---- Children up to the next operator
+  length_next : (others : List Node) → length others ≡ length nodes → length (take (count + 1) others) ≡ length (take count nodes) + 1
+  length_next others same = omega (arith, length-take (count + 1) others, length-take count nodes, same, low, four)
 
-module _ {P : Type 0} {trees : P → Exprs} {spelled : P → List Token → List Token} {operator : Token} {deep from here end next : ℕ} {src : List ℕ}
-    {some : Layouts} {old now : View} (list : Vec Node) (front nodes : List Node) (more : length nodes ≡ length front + 1)
-    (few : 2 * (list.raw.len + length front) ≤ here - from) (begun : from < here) (later : here < end) (last : end < next) (part : P)
-    (read : Reads src from next (λ more. spelled part (operator ∷ more)) (terms_at deep) (terms_at deep))
-    (spends : Spends some (most_for (end - from)) 0 (1177 + (credit list + node_cost * length front)) old now None) where
-  pub read_beside : IsRowRead (expr_row (trees part)) old.memory now.memory list nodes
-      → AreRead trees spelled operator deep src from next old now list nodes
-  read_beside row = record {
-    part = part;
-    read = read;
-    row = row;
-    few = omega (arith, few, more, begun, later, last);
-    spends = asks_any (spends_more spends (omega (arith, last)) (omega (arith, more, begun, later, last)));
-  }
+  -- what is placed for a term with its sign
+  pub sign_placed : (minus : Bool) (none : Node) {e : Expr} {old one two : Memory} {n m : Node} → IsPlaced e old one n
+      → ((e : Expr) (old : Memory) → IsPlaced e old one (get_or (set nodes count n) count none) → IsPlaced (signed_tree minus e) old two m)
+      → IsPlaced (signed_tree minus e) old two m
+  sign_placed minus none {e} {old} {one} {n = n} placed sign =
+      sign e old (subst (IsPlaced e old one) (sym (get_or-set_same nodes count n none (omega (arith, low, four)))) placed)
 
-  -- their nodes go into a list
-  pub read_into : {layouts : Layouts} {new : View} {longer : Vec Node} → Frame old.memory now.memory [] []
+  module _ {deep from here end : ℕ} {src : List ℕ} {old one two : View} {list : Vec Node} {n : Node} (nest : deep ≤ most_nest)
+      (spends : SpendsUpTo here src one two (Ok end)) where
+    pub factor_more : (r : FactorsRead deep src from here old one list (take count nodes))
+        → (k : IsFactor deep src here end one.memory two.memory n)
+        → AreBehind factor_trees spell_factors (Times r.part k.part) deep src from end old two list (take count nodes)
+        (take (count + 1) (set nodes count n))
+    factor_more r k =
+        let more = length_next (set nodes count n) (length-set nodes count n) in
+        record {
+          read = reads_then r.read (reads_plain nest k.read);
+          row = exprs_more (factor_trees r.part) (factor_tree k.part)
+              (row_next (OfExpr (factor_tree k.part)) n nodes refl r.row k.placed);
+          more = more;
+          few = omega (arith, r.few, more, r.later, k.later);
+          spends = spends_more (kid_read r spends k.later) (omega arith) (omega arith);
+        }
+
+    pub term_more : {layouts : Layouts} {three : View} {m : Node} (minus : Bool) (none : Node)
+        → (r : TermsRead minus deep src from here old one list (take count nodes))
+        → (k : IsTerm deep src here end one.memory two.memory n) → Spends layouts node_cost 0 0 two three None
+        → ((e : Expr) (old : Memory) → IsPlaced e old two.memory (get_or (set nodes count n) count none)
+        → IsPlaced (signed_tree minus e) old three.memory m)
+        → AreBehind term_trees spell_terms (joined minus r.part k.part) deep src from end old three list (take count nodes)
+        (take (count + 1) (set (set nodes count n) count m))
+    term_more {m = m} minus none r k negated sign =
+        let same = length-set nodes count n in
+        let more = length_next (set (set nodes count n) count m) (set_twice nodes count n m refl) in
+        record {
+          read = reads_terms minus r.part k.part r.read k.read;
+          row = terms_more minus r.part k.part (row_next (OfExpr (signed_tree minus (factors_tree k.part))) m (set nodes count n) same
+              (subst (IsRowRead (expr_row (term_trees r.part)) old.memory one.memory list) (sym (take-set nodes count n)) r.row) (sign_placed minus none k.placed sign));
+          more = more;
+          few = omega (arith, r.few, more, r.later, k.later);
+          spends = asks_any (spends_then (kid_read r spends k.later) negated (frees_then (read_frame r.row) k.placed.frame) (omega arith) (omega arith) (omega arith));
+        }
+
+-- ---- And then
+
+module _ {P : Type 0} {trees : P → Exprs} {spelled : P → List Token → List Token} {deep from : ℕ} {src : List ℕ} {old now : View}
+    {list : Vec Node} where
+  module _ {part : P} {end : ℕ} {front nodes : List Node} where
+    -- no operator, or no room for more: their nodes go into a list
+    pub put_all : {layouts : Layouts} {left all rest : ℕ} {new : View} {error : Option AllocError}
+        → AreBehind trees spelled part deep src from end old now list front nodes
+        → Spends layouts (node_cost * length nodes) (credit list) left now new error → end - from ≤ all → rest ≤ 818 + left
+        → Spends layouts (most_for all) 0 rest old new error
+    put_all b put within paid = spends_then b.spends put (read_frame b.row) (omega (arith, within)) (omega (arith, b.more, within))
+        (omega (arith, b.more, within, paid))
+
+    -- an operator
+    pub read_on : {operator : Token} {next : ℕ} → AreBehind trees spelled part deep src from end old now list front nodes
+        → Reads src end next (λ more. operator ∷ more) (terms_behind deep) (terms_at deep)
+        → AreRead trees spelled operator deep src from next old now list nodes
+    read_on b operator = record {
+      part = part;
+      read = reads_then b.read operator;
+      row = b.row;
+      few = omega (arith, b.few, operator.later);
+      spends = asks_any (spends_more b.spends (omega (arith, operator.later)) (omega (arith, b.more, b.later, operator.later)));
+    }
+
+    -- there is no room for more
+    pub all_behind : {n : ℕ} → AreBehind trees spelled part deep src from end old now list front (take n nodes) → length nodes ≤ n
+        → AreBehind trees spelled part deep src from end old now list front nodes
+    all_behind {n} b whole =
+        subst (AreBehind trees spelled part deep src from end old now list front) (take_all n nodes whole) b
+
+  -- their nodes went into a list
+  pub read_into : {operator : Token} {next : ℕ} {nodes : List Node} {layouts : Layouts} {new : View} {longer : Vec Node}
+      → (r : AreRead trees spelled operator deep src from next old now list nodes)
       → Spends layouts (node_cost * length nodes) (credit list) (credit longer) now new None → longer.raw.len ≡ list.raw.len + length nodes
-      → IsRowBuilt (expr_row (trees part)) old.memory new.memory longer → AreRead trees spelled operator deep src from next old new longer []
-  read_into frame put len built = record {
-    part = part;
-    read = read;
-    row = read_none built;
-    few = omega (arith, few, more, len, begun, later, last);
-    spends = asks_any (spends_then spends put frame (omega (arith, last)) (omega (arith, more, begun, later, last)) (omega (arith, more, begun, later, last)));
+      → (IsRowRead (expr_row (trees r.part)) old.memory now.memory list nodes → IsRowBuilt (expr_row (trees r.part)) old.memory new.memory longer)
+      → AreRead trees spelled operator deep src from next old new longer []
+  read_into r put len built = record {
+    part = r.part;
+    read = r.read;
+    row = read_none (built r.row);
+    few = omega (arith, r.few, len);
+    spends = asks_any (spends_then r.spends put (read_frame r.row) (omega arith) (omega arith) (omega arith));
   }
-
--- ---- How many there are
-
-pub length_next : (nodes : List Node) (count : ℕ) (others : List Node) (n : Node) → length others ≡ length nodes → count < length nodes
-    → length (take (count + 1) (set others count n)) ≡ length (take count nodes) + 1
-length_next nodes count others n same room = omega (
-  arith,
-  length-take (count + 1) (set others count n),
-  length-set others count n,
-  length-take count nodes,
-  same,
-  room,
-)
-
-pub length_last : (nodes : List Node) (count : ℕ) (others : List Node) (n : Node) → length others ≡ length nodes → length nodes ≡ count + 1
-    → length (set others count n) ≡ length (take count nodes) + 1
-length_last nodes count others n same full = omega (arith, length-set others count n, length-take count nodes, same, full)

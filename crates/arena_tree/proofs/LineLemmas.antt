@@ -1,6 +1,7 @@
 -- The whole text.
-use Rattle.std.proofs.Common.{◌≡◌, ℕ, Option, Some, None, Ok, Err, List, [], length, refl, sym, ap, ◌∙◌, subst}
+use Rattle.std.proofs.Common.{◌≡◌, ℕ, None, Ok, Err, List, [], length, refl, sym, ap, ◌∙◌, subst}
 use Rattle.std.specs.Prelude.{Result}
+use Rattle.std.proofs.lemmas.Option.{none-some}
 use Rattle.arena_chunks.specs.Memory.{Memory}
 use Rattle.arena_vec.specs.declared.vec.Vec.{Vec}
 use Rattle.tree_rules.specs.Tokens.{Token, without_places, tokens}
@@ -16,10 +17,7 @@ use Rattle.tree_nodes.specs.declared.node.Node.{Node}
 use Rattle.arena_tree.specs.StmtsAt.{AreBuilt}
 use Rattle.arena_tree.specs.LineParts.{at_line, LinesStop, AreLines, IsProgramRead}
 use Rattle.tree_nodes.proofs.RowLemmas.{stmts_built}
-use Rattle.arena_tree.proofs.TokenLemmas.{not_some, passed_from}
-
-pub none_some : (q : Refused) → ◌≡◌ {A = Option Refused} None (Some q) → ⊥
-none_some q e = cc
+use Rattle.arena_tree.proofs.TokenLemmas.{passed_from}
 
 abbrev OnePrograms : Type 0
 OnePrograms = (ts : List Token) (trees others : Stmts) (n m : ℕ) → IsProgram ts trees n → IsProgram ts others m → (trees ≡ others) × (n ≡ m)
@@ -27,7 +25,7 @@ OnePrograms = (ts : List Token) (trees others : Stmts) (n m : ℕ) → IsProgram
 pub all_read : (bytes : List ℕ) (old new : Memory) (list : Vec Node) (r : Result Stmts Refused) → OnePrograms → TreeOf bytes r
     → refusal_of bytes ≡ refused_by r → IsProgramRead bytes old new list
     → (trees : Stmts) × TreeOf bytes (Ok trees) × AreBuilt trees old new list
-all_read bytes old new list (Err q) one h is k = absurd (none_some q (sym k.passed ∙ is))
+all_read bytes old new list (Err q) one h is k = absurd (none-some q (sym k.passed ∙ is))
 all_read bytes old new list (Ok trees) one h is k =
     let program : IsProgram (without_places (tokens bytes)) (trees_of k.part) (nest k.part) = record {
       program = k.part;
@@ -53,4 +51,4 @@ pub more_left : {bytes : List ℕ} {end : ℕ} {l : Lexeme} {old new : Memory} {
 more_left {bytes} {end} {l} k stop n none =
     let passed = subst (λ ts. refusal_from (length bytes) (at_line 0) ts ≡ None) n.tokens_are (sym k.same ∙ none) in
     let q = passed_from (length bytes) (at_line 0) (record { at = l.at; token = n.token }) (tokens_at bytes l.end) passed in
-    not_some q.next (sym (ap (step (at_line 0)) (subst LinesStop n.tokens_are stop)) ∙ q.step_is)
+    none-some q.next (sym (ap (step (at_line 0)) (subst LinesStop n.tokens_are stop)) ∙ q.step_is)

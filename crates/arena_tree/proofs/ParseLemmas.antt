@@ -22,7 +22,7 @@ use Rattle.arena_tree.specs.declared.stop.Stop.TheVariants.{AllocErr, OutOfMemor
 use Rattle.arena_tree.specs.declared.tree.Tree.{Tree}
 use Rattle.arena_tree.specs.declared.tree.TreeErr.{TreeErr}
 use Rattle.arena_tree.specs.declared.tree.TreeErr.TheVariants as tree
-use Rattle.arena_tree.proofs.LineLemmas.{none_some}
+use Rattle.std.proofs.lemmas.Option.{none-some}
 use Rattle.arena_tree.specs.Parsing.{Parses, ParsesInOnePass, TakesAtMost, IsShortOf, parse_bytes, error_for, unplaced_by}
 
 pub refused_parses : (bytes : List ℕ) (a : View) (why : Refused) → TreeOf bytes (Err why) → Parses bytes a a (Err (error_for why))
@@ -92,7 +92,7 @@ pub judged_parses : (bytes : List ℕ) (old new : View) (result : Result Tree Tr
 judged_parses bytes old new result same none = by result
   where
     no : {P : Type 0} (why : Refused) → TreeOf bytes (Err why) → P
-    no why h = absurd (none_some why (sym none ∙ same (Err why) h))
+    no why h = absurd (none-some why (sym none ∙ same (Err why) h))
 
     by : (r : Result Tree TreeErr) → ParsesInOnePass bytes old new r → Parses bytes old new r
     by (Ok t) h = h

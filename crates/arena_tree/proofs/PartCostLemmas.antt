@@ -1,6 +1,6 @@
 -- What it costs to read parts of a text: the children of a sum or a product, one after another, which are appended to
 -- a list, and parts of which one failed.
-use Rattle.std.proofs.Common.{◌≡◌, ℕ, ◌+◌, ◌-◌, ◌<◌, ◌≤◌, arith, sym, subst, Ok, Err, Some, None, List, []}
+use Rattle.std.proofs.Common.{◌≡◌, ℕ, ◌+◌, ◌≤◌, arith, sym, subst, Ok, Err, Some, None, List, []}
 use Rattle.std.specs.Prelude.{Result, IsErr, IsErrAnd}
 use Rattle.arena_store.specs.declared.block.Block.{Block}
 use Rattle.arena_chunks.proofs.Layers.{frame_reflexive, frame_then}
@@ -12,23 +12,8 @@ use Rattle.arena_items.specs.declared.room.AllocError.TheVariants as alloc
 use Rattle.arena_tree.specs.Stops.{stop_of, cause, OnText}
 use Rattle.arena_tree.specs.declared.stop.Stop.{Stop}
 use Rattle.arena_tree.specs.declared.stop.Stop.TheVariants.{AllocErr, OutOfMemory, Text}
-use Rattle.arena_tree.specs.Spending.{Spends, Stopped, node_cost, most_for, left_for_node, SpendsUpTo, SpendsAll}
+use Rattle.arena_tree.specs.Spending.{Spends, Stopped, SpendsUpTo, SpendsAll}
 use Rattle.tree_nodes.proofs.SpendingLemmas.{spends_nothing, spends_then, spends_more, asks_any, frees}
-
--- A child is read after others. It may then be negated, which leaves less.
-pub kid_read : {some layouts : Layouts} {at here end : ℕ} {old one two : View} (saved : ℕ) → at < here → here < end
-    → Spends some (most_for (here - at)) 0 (1024 + saved) old one None
-    → Spends layouts (most_for (end - here)) 0 left_for_node one two None
-    → Frame old.memory one.memory [] [] → Spends layouts (most_for (end - at)) 0 (1536 + saved) old two None
-kid_read saved some later ones kid frame = spends_then ones kid frame (omega arith) (omega arith) (omega arith)
-
-pub kid_negated : {some layouts : Layouts} {paid : ℕ} {old one two : View} (saved : ℕ) → Spends some paid 0 (1536 + saved) old one None
-    → Spends layouts node_cost 0 0 one two None → Frame old.memory one.memory [] [] → Spends layouts paid 0 (1177 + saved) old two None
-kid_negated saved read negated frame = spends_then read negated frame (omega arith) (omega arith) (omega arith)
-
-pub kid_plain : {layouts : Layouts} {paid : ℕ} {old new : View} (saved : ℕ) → Spends layouts paid 0 (1536 + saved) old new None
-    → Spends layouts paid 0 (1177 + saved) old new None
-kid_plain saved read = spends_more read (omega arith) (omega arith)
 
 -- ---- Parts that weren't read whole
 

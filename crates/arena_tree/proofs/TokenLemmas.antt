@@ -1,5 +1,7 @@
 -- What comes next in a text, and where it is refused.
+use Rattle.std.proofs.lemmas.Bool.{true≢false}
 use Rattle.std.proofs.lemmas.Bool.Decides.{nat_tests}
+use Rattle.std.proofs.lemmas.Option.{none-some}
 use Rattle.std.proofs.Common.{◌≡◌, ◌==◌, ◌+◌, ◌<◌, ◌≤◌, codes, ℕ, zero, Bool, true, false, cond, Option, Some, None, Ok, Err, List, [], ◌∷◌, length, refl, sym, ap, ◌∙◌, subst, arith}
 use Rattle.std.specs.Prelude.{Result, IfNone, nat_lt, slice_index, slice_range, bytes_eq}
 use Rattle.tree_rules.specs.Tokens.{Token, LetKey, Word, Plus, Star, RightParen, LeftBrace, RightBrace, Equals, Semicolon, Other, Placed, is_digit, is_name_start, word, sign}
@@ -9,7 +11,7 @@ use Rattle.tree_rules.specs.declared.machine.Open.{Open}
 use Rattle.tree_rules.specs.declared.machine.Open.TheVariants.{Paren}
 use Rattle.tree_rules.specs.declared.machine.Mode.TheVariants.{AtLine, AtName, AtEquals, AtFactor, BehindFactor}
 use Rattle.tree_rules.specs.declared.refused.Refused.{Refused}
-use Rattle.tree_rules.specs.declared.refused.Refused.TheVariants.{TooDeep, NumberTooBig}
+use Rattle.tree_rules.specs.declared.refused.Refused.TheVariants.{Syntax, TooDeep, NumberTooBig}
 use Rattle.tree_reader.specs.Seen.{IsSeen, IsNumeral, IsBegin, IsNext, tokens_at}
 use Rattle.tree_reader.specs.Steps.{like}
 use Rattle.tree_reader.specs.declared.token.Lexeme.{Lexeme}
@@ -17,7 +19,7 @@ use Rattle.tree_reader.specs.declared.token.Seen.{Seen}
 use Rattle.tree_reader.specs.declared.token.Seen.TheVariants as seen
 use Rattle.tree_reader.proofs.JudgeLemmas.{judged_next, ended_next}
 use Rattle.tree_reader.proofs.ByteLemmas.{first_sign}
-use Rattle.arena_tree.specs.Parts.{IsPassed, IsTokenAt, TermsStop, NoFactor, NoClose}
+use Rattle.arena_tree.specs.Parts.{IsPassed, IsRefusedAt, IsTokenAt, TermsStop, NoFactor, NoClose}
 use Rattle.arena_tree.specs.LineParts.{braces, NoEnd}
 
 -- ---- One token
@@ -31,12 +33,6 @@ pub token_seen : {bytes : List ℕ} {at : ℕ} {l : Lexeme} {s : Seen} (token : 
 token_seen {bytes} {at} {l} token n is same =
     subst (λ t. IsTokenAt bytes at t l.end) (same (subst (λ (s : Seen). IsSeen s (slice_range bytes l.at l.end) n.token) is n.seen))
     (next_token n)
-
-some_none : (r : Refused) → ◌≡◌ {A = Option Refused} (Some r) None → ⊥
-some_none r e = cc
-
-pub not_some : (s : State) → ◌≡◌ {A = Option State} None (Some s) → ⊥
-not_some s e = cc
 
 -- A token that is accepted may come there, and the text isn't refused after it.
 pub record Passed (size : ℕ) (s : State) (token : Token) (ts : List Placed) : Type 0 where
@@ -56,10 +52,10 @@ passed_from size s t ts h = by (step s t.token) refl h
         → then size ts (cond {A = Result State Refused} b (Err (TooDeep t.at)) (cond c (Err (NumberTooBig t.at)) (Ok next))) ≡ None
         → Passed size s t.token ts
     sized next is false false small h = record { next = next; step_is = is; small = small; rest = h }
-    sized next is b c small h = absurd (some_none _ h)
+    sized next is b c small h = absurd (none-some _ (sym h))
 
     by : (o : Option State) → step s t.token ≡ o → then size ts (or_refused t o) ≡ None → Passed size s t.token ts
-    by None is h = absurd (some_none _ h)
+    by None is h = absurd (none-some _ (sym h))
     by (Some next) is h = sized next is (nat_lt most_nest (length next.opens)) (is_too_big t.token) refl h
 
 passed_token : {bytes : List ℕ} {at end : ℕ} {token : Token} (s : State) → IsTokenAt bytes at token end → IsPassed bytes s at
@@ -100,8 +96,8 @@ module _ {bytes : List ℕ} {at end : ℕ} {token : Token} (s next : State) (t :
 
   pub too_deep : most_nest < length next.opens → IsPassed bytes s at → ⊥
   too_deep deep p =
-      some_none (TooDeep t.place) (sym (ap (refusal_from (length bytes) s) t.tokens_are
-      ∙ deep_refused (length bytes) s next (record { at = t.place; token = token }) (tokens_at bytes end) is deep) ∙ p)
+      none-some (TooDeep t.place) (sym p ∙ ap (refusal_from (length bytes) s) t.tokens_are
+      ∙ deep_refused (length bytes) s next (record { at = t.place; token = token }) (tokens_at bytes end) is deep)
 
 -- ---- What is seen
 
@@ -113,10 +109,17 @@ passed_next {bytes} {at} {l} n s p =
     let next : Placed = record { at = l.at; token = like l.seen } in
     passed_from (length bytes) s next (tokens_at bytes l.end) (sym (judged_next bytes at l s (judged s next) n refl) ∙ p)
 
--- where a text may not end, a token comes
-pub some_token : (bytes : List ℕ) (at : ℕ) (s : State) {r : Refused} → ended (length bytes) s ≡ Some r → IsPassed bytes s at
-    → tokens_at bytes at ≡ [] → ⊥
-some_token bytes at s {r} is p none = some_none r (sym is ∙ sym (ended_next bytes at s none) ∙ p)
+-- what holds where nothing is returned
+pub if_none : {X : Type 0} (P : Type 0) (r : Option X) → P → IfNone r P
+if_none P None holds = holds
+if_none P (Some x) holds = tt
+
+-- where a text may not end, and no token comes, it is refused
+pub none_at : {X Y : Type 0} (bytes : List ℕ) (at : ℕ) (before : X → State)
+    → ((x : X) → ended (length bytes) (before x) ≡ Some (Syntax (length bytes))) → tokens_at bytes at ≡ [] → (r : Option Y)
+    → IfNone r (IsRefusedAt before bytes at)
+none_at bytes at before ends none r =
+    if_none (IsRefusedAt before bytes at) r (λ x p. none-some _ (sym p ∙ ended_next bytes at (before x) none ∙ ends x))
 
 module _ {bytes : List ℕ} {at : ℕ} {l : Lexeme} (n : IsNext bytes at l) where
   pub only_name : (opens : List Open) → IsPassed bytes (state AtName opens) at → (l.seen ≡ seen.Word → ⊥) → ⊥
@@ -124,28 +127,25 @@ module _ {bytes : List ℕ} {at : ℕ} {l : Lexeme} (n : IsNext bytes at l) wher
     where
       by : (s : Seen) → Passed (length bytes) (state AtName opens) (like s) (tokens_at bytes l.end) → (s ≡ seen.Word → ⊥) → ⊥
       by seen.Word q other = other refl
-      by s q other = not_some q.next q.step_is
+      by s q other = none-some q.next q.step_is
 
   pub only_equals : (opens : List Open) → IsPassed bytes (state AtEquals opens) at → (l.seen ≡ seen.Equals → ⊥) → ⊥
   only_equals opens p = by l.seen (passed_next n (state AtEquals opens) p)
     where
       by : (s : Seen) → Passed (length bytes) (state AtEquals opens) (like s) (tokens_at bytes l.end) → (s ≡ seen.Equals → ⊥) → ⊥
       by seen.Equals q other = other refl
-      by s q other = not_some q.next q.step_is
+      by s q other = none-some q.next q.step_is
 
   -- in a factor's place digits are a number
   pub only_number : (opens : List Open) → IsPassed bytes (state AtFactor opens) at → IsNumeral l.seen
       → ((n : ℕ) → l.seen ≡ seen.Number n → ⊥) → ⊥
   only_number opens p = by l.seen (passed_next n (state AtFactor opens) p)
     where
-      true_false : true ≡ false → ⊥
-      true_false e = cc
-
       by : (s : Seen) → Passed (length bytes) (state AtFactor opens) (like s) (tokens_at bytes l.end) → IsNumeral s
           → ((n : ℕ) → s ≡ seen.Number n → ⊥) → ⊥
       by (seen.Number k) q is other = other k refl
-      by seen.TooBig q is other = true_false q.small
-      by seen.Other q is other = not_some q.next q.step_is
+      by seen.TooBig q is other = true≢false q.small
+      by seen.Other q is other = none-some q.next q.step_is
       by s q is other = absurd is
 
   -- after an expression in parentheses they close
@@ -159,7 +159,7 @@ module _ {bytes : List ℕ} {at : ℕ} {l : Lexeme} (n : IsNext bytes at l) wher
       by seen.Star q stop h other = stop.0 h
       by seen.Plus q stop h other = stop.1.0 h
       by seen.Minus q stop h other = stop.1.1 h
-      by s q stop h other = not_some q.next q.step_is
+      by s q stop h other = none-some q.next q.step_is
 
   -- after a statement's expression a semicolon comes
   pub only_semicolon : TermsStop (tokens_at bytes at) → (l.seen ≡ seen.Semicolon → ⊥) → NoEnd bytes at
@@ -173,8 +173,8 @@ module _ {bytes : List ℕ} {at : ℕ} {l : Lexeme} (n : IsNext bytes at l) wher
       by seen.Star depth q stop h other = stop.0 h
       by seen.Plus depth q stop h other = stop.1.0 h
       by seen.Minus depth q stop h other = stop.1.1 h
-      by seen.RightParen zero q stop h other = not_some q.next q.step_is
-      by s depth q stop h other = not_some q.next q.step_is
+      by seen.RightParen zero q stop h other = none-some q.next q.step_is
+      by s depth q stop h other = none-some q.next q.step_is
 
   -- an expression, where no other statement begins
   pub expr_start : (l.seen ≡ seen.RightBrace → ⊥) → (l.seen ≡ seen.LeftBrace → ⊥) → (l.seen ≡ seen.LetKey → ⊥) → (opens : List Open)
@@ -226,7 +226,7 @@ pub no_start : {bytes : List ℕ} {at here : ℕ} → IsBegin bytes at here → 
     → NoFactor bytes at
 no_start {bytes} {at} {here} begin minus paren digit name opens p =
     let q = passed_token (state AtFactor opens) (sign_token begin digit name) p in
-    not_some q.next (sym (no_factor opens (slice_index bytes here) minus paren) ∙ q.step_is)
+    none-some q.next (sym (no_factor opens (slice_index bytes here) minus paren) ∙ q.step_is)
 
 -- a word, by whether it is the keyword; the keyword begins no factor
 pub word_token : {bytes : List ℕ} {at end : ℕ} (name : List ℕ) (key : Bool) → key ≡ bytes_eq name (codes "let")
@@ -234,9 +234,4 @@ pub word_token : {bytes : List ℕ} {at end : ℕ} (name : List ℕ) (key : Bool
 word_token {bytes} {at} {end} name key is t = subst (λ k. IsTokenAt bytes at (cond k LetKey (Word name)) end) (sym is) t
 
 pub no_keyword : {bytes : List ℕ} {at end : ℕ} → IsTokenAt bytes at LetKey end → NoFactor bytes at
-no_keyword t opens p = let q = passed_token (state AtFactor opens) t p in not_some q.next q.step_is
-
--- what holds where nothing is returned
-pub if_none : {X : Type 0} (P : Type 0) (r : Option X) → P → IfNone r P
-if_none P None holds = holds
-if_none P (Some x) holds = tt
+no_keyword t opens p = let q = passed_token (state AtFactor opens) t p in none-some q.next q.step_is

@@ -1,13 +1,11 @@
 use Rattle.std.proofs.Common.{refl}
 use Rattle.tree_rules.specs.Reading.{state}
 use Rattle.tree_rules.specs.declared.machine.Mode.TheVariants.{AtName}
-use Rattle.arena_tree.specs.LineParts.{IsRefusedIn}
-use Rattle.arena_tree.proofs.TokenLemmas.{some_token, only_name, if_none}
+use Rattle.arena_tree.proofs.TokenLemmas.{only_name, none_at}
 use Rattle.arena_tree.proofs.begin.name_at.Goals as goal
 
 pub returns-in_err-l-clause-none : goal.returns-in_err-l-clause-none
-returns-in_err-l-clause-none c = if_none (IsRefusedIn AtName c.args.src.now c.args.at) _ (λ opens p.
-    some_token c.args.src.now c.args.at (state AtName opens) refl p c.in_err-l.ensures.none)
+returns-in_err-l-clause-none c = none_at _ _ (state AtName) (λ x. refl) c.in_err-l.ensures.none _
 
 pub returns-in_default : goal.returns-in_default
 returns-in_default c = record {

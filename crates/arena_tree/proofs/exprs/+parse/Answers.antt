@@ -1,19 +1,16 @@
-use Rattle.std.proofs.Common.{ℕ, ◌≡◌, ◌+◌, ap, sym, subst, refl, inl, inr, length, length-set, length-take, set, take, ◌∙◌, arith}
-use Rattle.std.proofs.lemmas.List.{get_or-set_same}
+use Rattle.std.proofs.Common.{ℕ, ap, sym, subst, refl, inl, inr, length-set, length-take, ◌∙◌, arith}
 use Rattle.std.specs.Prelude.{slice_range}
 use Rattle.arena_store.specs.declared.block.Block.{Block}
-use Rattle.tree_rules.specs.Grammar.{ANumber, AName, InParens, Negated, OneFactor, Times, OneTerm, factor_tree, factors_tree, factor_trees}
+use Rattle.tree_rules.specs.Grammar.{ANumber, AName, InParens, Negated, OneFactor, Times, OneTerm, factor_tree, factors_tree}
 use Rattle.arena_tree.specs.Subtrees.{OfExpr}
-use Rattle.arena_tree.specs.Parts.{NoFactorIn, NoTermsIn, signed_tree}
 use Rattle.arena_tree.specs.Layouts.{ATerm, AFactor, ANegated, IsDoubled}
-use Rattle.arena_tree.specs.TreesAt.{IsPlaced}
 use Rattle.tree_nodes.proofs.BuildLemmas.{prod_placed, number_placed}
-use Rattle.tree_nodes.proofs.RowLemmas.{row_none, read_none, read_more, read_frame, read_length, list_kept, exprs_built, exprs_more}
+use Rattle.tree_nodes.proofs.RowLemmas.{row_none, read_none, read_more, read_frame, list_kept, exprs_built}
 use Rattle.tree_nodes.proofs.SpendingLemmas.{spends_then, spends_more, asks_of, asks_any, frees, frees_then, range_length}
-use Rattle.arena_tree.proofs.AskedLemmas.{asked_name, asked_list, asked_few}
-use Rattle.arena_tree.proofs.PartCostLemmas.{kid_read, kid_plain, kid_negated, stops_then, stops_more, arena_stops, text_stops, err_up_to, err_text}
-use Rattle.arena_tree.proofs.PartLemmas.{reads_then, reads_in, reads_leaf, reads_plain, reads_star, reads_sign, reads_terms, refused_then, in_paren, in_sign, unsigned, opens_paren, closes_paren, opens_sign, deep_paren, deep_sign, joined, terms_more, terms_placed}
-use Rattle.arena_tree.proofs.GatherLemmas.{first_factor, first_term, row_next, row_last, row_again, read_beside, read_into, length_next, length_last}
+use Rattle.arena_tree.proofs.AskedLemmas.{asked_name, asked_list, asked_all, asked_four}
+use Rattle.arena_tree.proofs.PartCostLemmas.{stops_then, stops_more, arena_stops, text_stops, err_up_to, err_text}
+use Rattle.arena_tree.proofs.PartLemmas.{reads_then, reads_in, reads_leaf, reads_plain, reads_star, reads_sign, refused_then, in_paren, in_sign, unsigned, opens_paren, closes_paren, opens_sign, deep_paren, deep_sign, joined, terms_placed}
+use Rattle.arena_tree.proofs.GatherLemmas.{first_child, set_twice, kid_read, sign_placed, factor_more, term_more, put_all, read_on, all_behind, read_into}
 use Rattle.arena_tree.proofs.exprs.+parse.Goals as goal
 
 pub factor-returns-in-Some-Number-clause-tree : goal.factor-returns-in-Some-Number-clause-tree
@@ -56,8 +53,6 @@ paren-returns-clause-tree g t c =
       stopped = tt;
       placed = k.placed;
     }
-
--- ---- Terms
 
 pub factor-returns-in_ok-name_node-in-Some-Word-clause-spends : goal.factor-returns-in_ok-name_node-in-Some-Word-clause-spends
 factor-returns-in_ok-name_node-in-Some-Word-clause-spends g t c =
@@ -108,8 +103,7 @@ minus-returns-then-deep-eq-MOST_OPEN-clause-text g t c = deep_sign c.requires.ne
 pub minus-returns-in_err-end-clause-text : goal.minus-returns-in_err-end-clause-text
 minus-returns-in_err-end-clause-text g t c =
     let sign = opens_sign c.requires.nest c.if-deep-eq-MOST_OPEN.false c.requires.start in
-    err_text ℕ (NoFactorIn (c.args.deep + 1) c.args.src.now c.args.behind) (NoFactorIn c.args.deep c.args.src.now c.args.at) _ _
-    c.from_residual.ensures (λ no. refused_then sign (λ o. no (in_sign o))) c.in_err-end.ensures.text
+    err_text ℕ _ _ _ _ c.from_residual.ensures (λ no. refused_then sign (λ o. no (in_sign o))) c.in_err-end.ensures.text
 
 pub paren-returns-then-deep-eq-MOST_OPEN-clause-text : goal.paren-returns-then-deep-eq-MOST_OPEN-clause-text
 paren-returns-then-deep-eq-MOST_OPEN-clause-text g t c = deep_paren c.requires.nest c.if-deep-eq-MOST_OPEN.true c.requires.start
@@ -117,8 +111,7 @@ paren-returns-then-deep-eq-MOST_OPEN-clause-text g t c = deep_paren c.requires.n
 pub paren-returns-in_err-end-clause-text : goal.paren-returns-in_err-end-clause-text
 paren-returns-in_err-end-clause-text g t c =
     let paren = opens_paren c.requires.nest c.if-deep-eq-MOST_OPEN.false c.requires.start in
-    err_text ℕ (NoTermsIn (c.args.deep + 1) c.args.src.now c.args.behind) (NoFactorIn c.args.deep c.args.src.now c.args.at) _ _
-    c.from_residual.ensures (λ no. refused_then paren (λ o. no (in_paren o))) c.in_err-end.ensures.text
+    err_text ℕ _ _ _ _ c.from_residual.ensures (λ no. refused_then paren (λ o. no (in_paren o))) c.in_err-end.ensures.text
 
 pub paren-returns-in_default-clause-text : goal.paren-returns-in_default-clause-text
 paren-returns-in_default-clause-text g t c =
@@ -134,8 +127,7 @@ paren-returns-in_default-clause-spends g t c =
 
 pub term-returns-in_err-end-clause-text : goal.term-returns-in_err-end-clause-text
 term-returns-in_err-end-clause-text g t c =
-    err_text ℕ (NoFactorIn c.args.deep c.args.src.now c.args.at) (NoTermsIn c.args.deep c.args.src.now c.args.at) _ _ c.from_residual.ensures
-    (λ no o. no (unsigned o)) c.in_err-end.ensures.text
+    err_text ℕ _ _ _ _ c.from_residual.ensures (λ no o. no (unsigned o)) c.in_err-end.ensures.text
 
 -- ---- Terms
 
@@ -144,20 +136,16 @@ term-returns-in-None-clause-tree g t c =
     let k = c.in_ok-end.ensures.tree in
     record { part = OneFactor k.part; read = reads_plain c.requires.nest k.read; stopped = c.in-None.ensures.none; placed = k.placed }
 
-pub term-returns-in-Some-clause-tree : goal.term-returns-in-Some-clause-tree
-term-returns-in-Some-clause-tree g t c =
+pub term-returns-in-Some : goal.term-returns-in-Some
+term-returns-in-Some g t c =
     let k = c.in_ok-end.ensures in
-    c.factors.ensures.tree c.args.at c.args.a.now (first_factor c.requires.nest k.spends k.tree c.in-Some.ensures.some)
-
-pub term-returns-in-Some-clause-spends : goal.term-returns-in-Some-clause-spends
-term-returns-in-Some-clause-spends g t c =
-    let k = c.in_ok-end.ensures in
-    c.factors.ensures.spends c.args.at c.args.a.now (first_factor c.requires.nest k.spends k.tree c.in-Some.ensures.some)
-
-pub term-returns-in-Some-clause-text : goal.term-returns-in-Some-clause-text
-term-returns-in-Some-clause-text g t c =
-    let k = c.in_ok-end.ensures in
-    c.factors.ensures.text c.args.at c.args.a.now (first_factor c.requires.nest k.spends k.tree c.in-Some.ensures.some)
+    let first = first_child k.spends k.tree.part (reads_plain c.requires.nest k.tree.read) k.tree.placed
+    (reads_star c.requires.nest c.in-Some.ensures.some) in
+    record {
+      tree = c.factors.ensures.tree c.args.at c.args.a.now first;
+      spends = c.factors.ensures.spends c.args.at c.args.a.now first;
+      text = c.factors.ensures.text c.args.at c.args.a.now first;
+    }
 
 pub factors-loop-stop-init : goal.factors-loop-stop-init
 factors-loop-stop-init g t c =
@@ -186,56 +174,51 @@ factors-returns-in_err-stop-clause-spends g t c = λ from old first.
 
 pub factors-returns-in_err-stop-clause-text : goal.factors-returns-in_err-stop-clause-text
 factors-returns-in_err-stop-clause-text g t c = λ from old first.
-    err_text ℕ (NoFactorIn c.args.deep c.args.src.now c.loop-stop.here) (NoTermsIn c.args.deep c.args.src.now from) _ _ c.from_residual.ensures
-    (λ no. refused_then (c.loop-stop.invariant.read from old first).read (λ o. no (unsigned o))) c.in_err-stop.ensures.text
+    err_text ℕ _ _ _ _ c.from_residual.ensures (λ no. refused_then (c.loop-stop.invariant.read from old first).read (λ o. no (unsigned o)))
+    c.in_err-stop.ensures.text
 
 pub factors-returns-in_err-all-clause-spends : goal.factors-returns-in_err-all-clause-spends
 factors-returns-in_err-all-clause-spends g t c = λ from old first.
     let i = c.loop-stop.invariant in
     let r = i.read from old first in
     let k = c.in_ok-stop.ensures in
-    let more = length_next c.loop-stop.nodes c.loop-stop.count c.loop-stop.nodes c.factor.new.node refl (omega (arith, i.few, i.nodes)) in
-    let read = kid_plain _ (kid_read _ r.later k.tree.later r.spends k.spends (read_frame r.row)) in
-    let long = read_length r.row in
-    err_up_to _ _ _ _ c.from_residual-in_err-all.ensures (arena_stops _ (asks_of (asked_few (AFactor r.part) r.read
-    (λ none. inl (omega (arith, none, long, more, length-take c.loop-stop.count c.loop-stop.nodes, i.few, i.nodes, i.held.within))) i.doubled (omega (arith, i.few, more, length-take c.loop-stop.count c.loop-stop.nodes, i.few, i.nodes)) i.held.within (omega (arith, long, more)))
-    (spends_then read c.in_err-all.ensures.spends (frees_then (read_frame r.row) k.tree.placed.frame) (omega (arith, k.tree.within)) (omega (arith, more, k.tree.within))
-    (omega (arith, more, k.tree.within)))))
+    let b = factor_more _ c.loop-stop.count i.few.0 i.nodes c.requires.nest k.spends r k.tree in
+    let full = length-take c.loop-stop.count c.loop-stop.nodes in
+    err_up_to _ _ _ _ c.from_residual-in_err-all.ensures (arena_stops _ (asks_of (asked_all (AFactor r.part) r.read r.row i.doubled
+    i.held.within b.more (omega (arith, b.more, full, i.few, i.nodes)) (omega (arith, i.few)))
+    (put_all b c.in_err-all.ensures.spends (omega (arith, k.tree.within)) (omega arith))))
 
 pub factors-returns-in_default-clause-tree : goal.factors-returns-in_default-clause-tree
 factors-returns-in_default-clause-tree g t c = λ from old first.
     let i = c.loop-stop.invariant in
-    let r = i.read from old first in
     let k = c.in_ok-stop.ensures in
     let node = c.with_kids.ensures in
-    let built = c.in_ok-all.ensures.row _ _ (exprs_more (factor_trees r.part) (factor_tree k.tree.part)
-    (row_next c.loop-stop.nodes c.loop-stop.count (OfExpr (factor_tree k.tree.part)) c.factor.new.node (omega (arith, i.few, i.nodes)) r.row k.tree.placed)) in
-    record { part = Times r.part k.tree.part; read = reads_then r.read (reads_plain c.requires.nest k.tree.read); stopped = c.in_default.ensures.none; placed = prod_placed _ _ _ _ _ (exprs_built _ _ _ _ built) node.kind node.kids node.rest }
+    let b = factor_more _ c.loop-stop.count i.few.0 i.nodes c.requires.nest k.spends (i.read from old first) k.tree in
+    record {
+      part = Times (i.read from old first).part k.tree.part;
+      read = b.read;
+      stopped = c.in_default.ensures.none;
+      placed = prod_placed _ _ _ _ _ (exprs_built _ _ _ _ (c.in_ok-all.ensures.row _ _ b.row)) node.kind node.kids node.rest;
+    }
 
 pub factors-returns-in_default-clause-spends : goal.factors-returns-in_default-clause-spends
 factors-returns-in_default-clause-spends g t c = λ from old first.
     let i = c.loop-stop.invariant in
-    let r = i.read from old first in
     let k = c.in_ok-stop.ensures in
-    let more = length_next c.loop-stop.nodes c.loop-stop.count c.loop-stop.nodes c.factor.new.node refl (omega (arith, i.few, i.nodes)) in
-    let read = kid_plain _ (kid_read _ r.later k.tree.later r.spends k.spends (read_frame r.row)) in
-    asks_any (spends_then read c.in_ok-all.ensures.spends (frees_then (read_frame r.row) k.tree.placed.frame) (omega arith) (omega (arith, more)) (omega (arith, more)))
+    asks_any (put_all (factor_more _ c.loop-stop.count i.few.0 i.nodes c.requires.nest k.spends
+    (i.read from old first) k.tree) c.in_ok-all.ensures.spends (omega arith) (omega arith))
 
 pub factors-returns-in_err-list-clause-spends : goal.factors-returns-in_err-list-clause-spends
 factors-returns-in_err-list-clause-spends g t c = λ from old first.
     let i = c.loop-stop.invariant in
     let r = i.read from old first in
     let k = c.in_ok-stop.ensures in
-    let op = c.in-Some.ensures.some in
-    let more = length_last c.loop-stop.nodes c.loop-stop.count c.loop-stop.nodes c.factor.new.node refl (omega (arith, c.if-count-eq-FEW.true, i.nodes)) in
-    let read = kid_plain _ (kid_read _ r.later k.tree.later r.spends k.spends (read_frame r.row)) in
-    let long = read_length (exprs_more (factor_trees r.part) (factor_tree k.tree.part)
-    (row_last c.loop-stop.nodes c.loop-stop.count (OfExpr (factor_tree k.tree.part)) c.factor.new.node (omega (arith, c.if-count-eq-FEW.true, i.nodes)) r.row k.tree.placed)) in
-    let full = length-take c.loop-stop.count c.loop-stop.nodes in
-    err_up_to _ _ _ _ c.from_residual-in_err-list.ensures (arena_stops _ (asks_of (asked_few (AFactor (Times r.part k.tree.part)) (reads_then (reads_then r.read (reads_plain c.requires.nest k.tree.read)) (reads_star c.requires.nest op))
-    (λ none. inr (omega (arith, none, long, more, full, c.if-count-eq-FEW.true, i.nodes, i.held.within), 3, refl)) i.doubled
-    (omega (arith, more, full, c.if-count-eq-FEW.true, i.nodes)) i.held.within (omega (arith, long)))
-    (spends_then read c.in_err-list.ensures.spends (frees_then (read_frame r.row) k.tree.placed.frame) (omega (arith, op.within)) (omega (arith, more, op.within)) (omega (arith, more, op.within)))))
+    let four = length-set c.loop-stop.nodes c.loop-stop.count c.factor.new.node ∙ i.nodes in
+    let b = all_behind (factor_more _ c.loop-stop.count i.few.0 i.nodes c.requires.nest k.spends r k.tree)
+    (omega (arith, four, c.if-count-eq-FEW.true)) in
+    err_up_to _ _ _ _ c.from_residual-in_err-list.ensures (arena_stops _ (asks_of (asked_four (AFactor (Times r.part k.tree.part))
+    (reads_then b.read (reads_star c.requires.nest c.in-Some.ensures.some)) b.row i.doubled i.held.within four)
+    (put_all b c.in_err-list.ensures.spends (omega (arith, k.tree.within)) (omega arith))))
 
 pub factors-loop-stop-preserved-then-count-eq-FEW : goal.factors-loop-stop-preserved-then-count-eq-FEW
 factors-loop-stop-preserved-then-count-eq-FEW g t c =
@@ -243,22 +226,18 @@ factors-loop-stop-preserved-then-count-eq-FEW g t c =
     let k = c.in_ok-stop.ensures in
     let op = c.in-Some.ensures.some in
     let put = c.in_ok-list.ensures in
-    let more = length_last c.loop-stop.nodes c.loop-stop.count c.loop-stop.nodes c.factor.new.node refl (omega (arith, c.if-count-eq-FEW.true, i.nodes)) in
-    let full : length (set c.loop-stop.nodes c.loop-stop.count c.factor.new.node) ≡ 4
-    = omega (arith, more, length-take c.loop-stop.count c.loop-stop.nodes, c.if-count-eq-FEW.true, i.nodes) in
+    let four = length-set c.loop-stop.nodes c.loop-stop.count c.factor.new.node ∙ i.nodes in
     record {
       within = (omega (arith, i.within, k.tree.later, op.later), op.within);
-      few = (omega arith, omega (arith, i.few, put.len, full, k.tree.later, op.later, c.if-count-eq-FEW.true));
-      nodes = full;
+      few = (omega arith, omega (arith, i.few, put.len, four, k.tree.later, op.later, c.if-count-eq-FEW.true));
+      nodes = four;
       held = put.held;
-      doubled = subst (λ many. IsDoubled many c.in_ok-list.list.raw.cap) full
-          (put.cap 2 3 full refl (subst (λ many. IsDoubled many c.loop-stop.list.raw.cap) (sym full) i.doubled));
+      doubled = subst (λ many. IsDoubled many c.in_ok-list.list.raw.cap) four
+          (put.cap 2 3 four refl (subst (λ many. IsDoubled many c.loop-stop.list.raw.cap) (sym four) i.doubled));
       read = λ from old first.
-          let r = i.read from old first in
-          let read = kid_plain _ (kid_read _ r.later k.tree.later r.spends k.spends (read_frame r.row)) in
-          read_into c.loop-stop.list (take c.loop-stop.count c.loop-stop.nodes) (set c.loop-stop.nodes c.loop-stop.count c.factor.new.node) more r.few r.later k.tree.later op.later (Times r.part k.tree.part) (reads_then (reads_then r.read (reads_plain c.requires.nest k.tree.read)) (reads_star c.requires.nest op)) read (frees_then (read_frame r.row) k.tree.placed.frame) put.spends put.len (put.row _ _
-          (exprs_more (factor_trees r.part) (factor_tree k.tree.part)
-          (row_last c.loop-stop.nodes c.loop-stop.count (OfExpr (factor_tree k.tree.part)) c.factor.new.node (omega (arith, c.if-count-eq-FEW.true, i.nodes)) r.row k.tree.placed)));
+          let b = factor_more _ c.loop-stop.count i.few.0 i.nodes c.requires.nest k.spends (i.read from old first) k.tree in
+          read_into (read_on (all_behind b (omega (arith, four, c.if-count-eq-FEW.true))) (reads_star c.requires.nest op)) put.spends put.len
+          (put.row _ _);
     }
 
 pub factors-loop-stop-preserved : goal.factors-loop-stop-preserved
@@ -272,12 +251,8 @@ factors-loop-stop-preserved g t c =
       nodes = length-set c.loop-stop.nodes c.loop-stop.count c.factor.new.node ∙ i.nodes;
       held = list_kept i.held k.tree.placed.frame;
       doubled = i.doubled;
-      read = λ from old first.
-          let r = i.read from old first in
-          let read = kid_plain _ (kid_read _ r.later k.tree.later r.spends k.spends (read_frame r.row)) in
-          read_beside c.loop-stop.list (take c.loop-stop.count c.loop-stop.nodes) (take (c.loop-stop.count + 1) (set c.loop-stop.nodes c.loop-stop.count c.factor.new.node)) (length_next c.loop-stop.nodes c.loop-stop.count c.loop-stop.nodes c.factor.new.node refl (omega (arith, i.few, i.nodes))) r.few r.later k.tree.later op.later (Times r.part k.tree.part) (reads_then (reads_then r.read (reads_plain c.requires.nest k.tree.read)) (reads_star c.requires.nest op)) read
-          (exprs_more (factor_trees r.part) (factor_tree k.tree.part)
-          (row_next c.loop-stop.nodes c.loop-stop.count (OfExpr (factor_tree k.tree.part)) c.factor.new.node (omega (arith, i.few, i.nodes)) r.row k.tree.placed));
+      read = λ from old first. read_on (factor_more _ c.loop-stop.count i.few.0 i.nodes c.requires.nest
+          k.spends (i.read from old first) k.tree) (reads_star c.requires.nest op);
     }
 
 -- ---- Expressions
@@ -287,20 +262,16 @@ expr-returns-in-None-clause-tree g t c =
     let k = c.in_ok-end.ensures.tree in
     record { part = OneTerm k.part; read = k.read; stopped = (k.stopped, c.in-None.ensures.none); placed = k.placed }
 
-pub expr-returns-in-Some-clause-tree : goal.expr-returns-in-Some-clause-tree
-expr-returns-in-Some-clause-tree g t c =
+pub expr-returns-in-Some : goal.expr-returns-in-Some
+expr-returns-in-Some g t c =
     let k = c.in_ok-end.ensures in
-    c.terms.ensures.tree c.args.at c.args.a.now (first_term c.requires.nest k.spends c.in-Some.minus k.tree c.in-Some.ensures.some)
-
-pub expr-returns-in-Some-clause-spends : goal.expr-returns-in-Some-clause-spends
-expr-returns-in-Some-clause-spends g t c =
-    let k = c.in_ok-end.ensures in
-    c.terms.ensures.spends c.args.at c.args.a.now (first_term c.requires.nest k.spends c.in-Some.minus k.tree c.in-Some.ensures.some)
-
-pub expr-returns-in-Some-clause-text : goal.expr-returns-in-Some-clause-text
-expr-returns-in-Some-clause-text g t c =
-    let k = c.in_ok-end.ensures in
-    c.terms.ensures.text c.args.at c.args.a.now (first_term c.requires.nest k.spends c.in-Some.minus k.tree c.in-Some.ensures.some)
+    let first = first_child k.spends k.tree.part k.tree.read k.tree.placed
+    (reads_sign c.requires.nest c.in-Some.minus c.in-Some.ensures.some) in
+    record {
+      tree = c.terms.ensures.tree c.args.at c.args.a.now first;
+      spends = c.terms.ensures.spends c.args.at c.args.a.now first;
+      text = c.terms.ensures.text c.args.at c.args.a.now first;
+    }
 
 pub terms-loop-stop-init : goal.terms-loop-stop-init
 terms-loop-stop-init g t c =
@@ -324,20 +295,14 @@ terms-loop-stop-init g t c =
 pub terms-with_more-requires-clause-held : goal.terms-with_more-requires-clause-held
 terms-with_more-requires-clause-held g t c =
     let i = c.loop-stop.invariant in
-    let k = c.in_ok-stop.ensures in
-    let placed = c.in_ok-sign.ensures.tree (factors_tree k.tree.part) c.loop-stop.a.memory
-    (subst (λ n. IsPlaced (factors_tree k.tree.part) c.loop-stop.a.memory c.term.new.a.memory n)
-    (sym (get_or-set_same c.loop-stop.nodes c.loop-stop.count c.term.new.node _ (omega (arith, i.few, i.nodes)))) k.tree.placed) in
-    list_kept i.held placed.frame
+    list_kept i.held (sign_placed c.loop-stop.nodes c.loop-stop.count i.few.0 i.nodes c.loop-stop.minus _ c.in_ok-stop.ensures.tree.placed
+    c.in_ok-sign.ensures.tree).frame
 
 pub terms-with_more-requires-then-count-eq-FEW-clause-held : goal.terms-with_more-requires-then-count-eq-FEW-clause-held
 terms-with_more-requires-then-count-eq-FEW-clause-held g t c =
     let i = c.loop-stop.invariant in
-    let k = c.in_ok-stop.ensures in
-    let placed = c.in_ok-sign.ensures.tree (factors_tree k.tree.part) c.loop-stop.a.memory
-    (subst (λ n. IsPlaced (factors_tree k.tree.part) c.loop-stop.a.memory c.term.new.a.memory n)
-    (sym (get_or-set_same c.loop-stop.nodes c.loop-stop.count c.term.new.node _ (omega (arith, i.few, i.nodes)))) k.tree.placed) in
-    list_kept i.held placed.frame
+    list_kept i.held (sign_placed c.loop-stop.nodes c.loop-stop.count i.few.0 i.nodes c.loop-stop.minus _ c.in_ok-stop.ensures.tree.placed
+    c.in_ok-sign.ensures.tree).frame
 
 pub terms-returns-in_err-stop-clause-spends : goal.terms-returns-in_err-stop-clause-spends
 terms-returns-in_err-stop-clause-spends g t c = λ from old first.
@@ -347,35 +312,29 @@ terms-returns-in_err-stop-clause-spends g t c = λ from old first.
 
 pub terms-returns-in_err-stop-clause-text : goal.terms-returns-in_err-stop-clause-text
 terms-returns-in_err-stop-clause-text g t c = λ from old first.
-    err_text ℕ (NoTermsIn c.args.deep c.args.src.now c.loop-stop.here) (NoTermsIn c.args.deep c.args.src.now from) _ _ c.from_residual.ensures
-    (λ no. refused_then (c.loop-stop.invariant.read from old first).read no) c.in_err-stop.ensures.text
+    err_text ℕ _ _ _ _ c.from_residual.ensures (λ no. refused_then (c.loop-stop.invariant.read from old first).read no)
+    c.in_err-stop.ensures.text
 
 pub terms-returns-in_err-sign-clause-spends : goal.terms-returns-in_err-sign-clause-spends
 terms-returns-in_err-sign-clause-spends g t c = λ from old first.
     let r = c.loop-stop.invariant.read from old first in
     let k = c.in_ok-stop.ensures in
-    let read = kid_read _ r.later k.tree.later r.spends k.spends (read_frame r.row) in
     err_up_to _ _ _ _ c.from_residual-in_err-sign.ensures
     (arena_stops _ (asks_of (asked_list (ATerm r.part c.loop-stop.minus) r.read 1 (inr (omega arith, 0, refl)))
-    (spends_then read c.in_err-sign.ensures.spends (frees_then (read_frame r.row) k.tree.placed.frame) (omega (arith, k.tree.within))
-    (omega (arith, k.tree.within)) (omega (arith, k.tree.within)))))
+    (spends_then (kid_read r k.spends k.tree.later) c.in_err-sign.ensures.spends (frees_then (read_frame r.row) k.tree.placed.frame)
+    (omega (arith, k.tree.within)) (omega (arith, k.tree.within)) (omega (arith, k.tree.within)))))
 
 pub terms-returns-in_err-all-clause-spends : goal.terms-returns-in_err-all-clause-spends
 terms-returns-in_err-all-clause-spends g t c = λ from old first.
     let i = c.loop-stop.invariant in
     let r = i.read from old first in
     let k = c.in_ok-stop.ensures in
-    let more = length_next c.loop-stop.nodes c.loop-stop.count (set c.loop-stop.nodes c.loop-stop.count c.term.new.node) c.sign.new.node (length-set c.loop-stop.nodes c.loop-stop.count c.term.new.node) (omega (arith, i.few, i.nodes)) in
-    let placed = c.in_ok-sign.ensures.tree (factors_tree k.tree.part) c.loop-stop.a.memory
-    (subst (λ n. IsPlaced (factors_tree k.tree.part) c.loop-stop.a.memory c.term.new.a.memory n)
-    (sym (get_or-set_same c.loop-stop.nodes c.loop-stop.count c.term.new.node _ (omega (arith, i.few, i.nodes)))) k.tree.placed) in
-    let read = kid_negated _ (kid_read _ r.later k.tree.later r.spends k.spends (read_frame r.row)) c.in_ok-sign.ensures.spends
-    (frees_then (read_frame r.row) k.tree.placed.frame) in
-    let long = read_length r.row in
-    err_up_to _ _ _ _ c.from_residual-in_err-all.ensures (arena_stops _ (asks_of (asked_few (ATerm r.part c.loop-stop.minus) r.read
-    (λ none. inl (omega (arith, none, long, more, length-take c.loop-stop.count c.loop-stop.nodes, i.few, i.nodes, i.held.within))) i.doubled (omega (arith, i.few, more, length-take c.loop-stop.count c.loop-stop.nodes, i.few, i.nodes)) i.held.within (omega (arith, long, more)))
-    (spends_then read c.in_err-all.ensures.spends (frees_then (read_frame r.row) placed.frame) (omega (arith, k.tree.within)) (omega (arith, more, k.tree.within))
-    (omega (arith, more, k.tree.within)))))
+    let b = term_more _ c.loop-stop.count i.few.0 i.nodes c.requires.nest k.spends c.loop-stop.minus _ r k.tree
+    c.in_ok-sign.ensures.spends c.in_ok-sign.ensures.tree in
+    let full = length-take c.loop-stop.count c.loop-stop.nodes in
+    err_up_to _ _ _ _ c.from_residual-in_err-all.ensures (arena_stops _ (asks_of (asked_all (ATerm r.part c.loop-stop.minus) r.read r.row
+    i.doubled i.held.within b.more (omega (arith, b.more, full, i.few, i.nodes)) (omega (arith, i.few)))
+    (put_all b c.in_err-all.ensures.spends (omega (arith, k.tree.within)) (omega arith))))
 
 pub terms-returns-in_default-clause-tree : goal.terms-returns-in_default-clause-tree
 terms-returns-in_default-clause-tree g t c = λ from old first.
@@ -383,45 +342,36 @@ terms-returns-in_default-clause-tree g t c = λ from old first.
     let r = i.read from old first in
     let k = c.in_ok-stop.ensures in
     let node = c.with_kids.ensures in
-    let placed = c.in_ok-sign.ensures.tree (factors_tree k.tree.part) c.loop-stop.a.memory
-    (subst (λ n. IsPlaced (factors_tree k.tree.part) c.loop-stop.a.memory c.term.new.a.memory n)
-    (sym (get_or-set_same c.loop-stop.nodes c.loop-stop.count c.term.new.node _ (omega (arith, i.few, i.nodes)))) k.tree.placed) in
-    let built = c.in_ok-all.ensures.row _ _ (terms_more c.loop-stop.minus r.part k.tree.part
-    (row_next (set c.loop-stop.nodes c.loop-stop.count c.term.new.node) c.loop-stop.count (OfExpr (signed_tree c.loop-stop.minus (factors_tree k.tree.part))) c.sign.new.node (omega (arith, i.few, i.nodes, length-set c.loop-stop.nodes c.loop-stop.count c.term.new.node)) (row_again c.loop-stop.nodes c.loop-stop.count c.term.new.node r.row) placed)) in
-    record { part = joined c.loop-stop.minus r.part k.tree.part; read = reads_terms c.loop-stop.minus r.part k.tree.part r.read k.tree.read; stopped = (k.tree.stopped, c.in_default.ensures.none); placed = terms_placed c.loop-stop.minus r.part k.tree.part built node.kind node.kids node.rest }
+    let b = term_more _ c.loop-stop.count i.few.0 i.nodes c.requires.nest k.spends c.loop-stop.minus _ r k.tree
+    c.in_ok-sign.ensures.spends c.in_ok-sign.ensures.tree in
+    record {
+      part = joined c.loop-stop.minus r.part k.tree.part;
+      read = b.read;
+      stopped = (k.tree.stopped, c.in_default.ensures.none);
+      placed = terms_placed c.loop-stop.minus r.part k.tree.part (c.in_ok-all.ensures.row _ _ b.row) node.kind node.kids node.rest;
+    }
 
 pub terms-returns-in_default-clause-spends : goal.terms-returns-in_default-clause-spends
 terms-returns-in_default-clause-spends g t c = λ from old first.
     let i = c.loop-stop.invariant in
-    let r = i.read from old first in
     let k = c.in_ok-stop.ensures in
-    let more = length_next c.loop-stop.nodes c.loop-stop.count (set c.loop-stop.nodes c.loop-stop.count c.term.new.node) c.sign.new.node (length-set c.loop-stop.nodes c.loop-stop.count c.term.new.node) (omega (arith, i.few, i.nodes)) in
-    let placed = c.in_ok-sign.ensures.tree (factors_tree k.tree.part) c.loop-stop.a.memory
-    (subst (λ n. IsPlaced (factors_tree k.tree.part) c.loop-stop.a.memory c.term.new.a.memory n)
-    (sym (get_or-set_same c.loop-stop.nodes c.loop-stop.count c.term.new.node _ (omega (arith, i.few, i.nodes)))) k.tree.placed) in
-    let read = kid_negated _ (kid_read _ r.later k.tree.later r.spends k.spends (read_frame r.row)) c.in_ok-sign.ensures.spends
-    (frees_then (read_frame r.row) k.tree.placed.frame) in
-    asks_any (spends_then read c.in_ok-all.ensures.spends (frees_then (read_frame r.row) placed.frame) (omega arith) (omega (arith, more)) (omega (arith, more)))
+    asks_any (put_all (term_more _ c.loop-stop.count i.few.0 i.nodes c.requires.nest k.spends c.loop-stop.minus _
+    (i.read from old first) k.tree c.in_ok-sign.ensures.spends c.in_ok-sign.ensures.tree)
+    c.in_ok-all.ensures.spends (omega arith) (omega arith))
 
 pub terms-returns-in_err-list-clause-spends : goal.terms-returns-in_err-list-clause-spends
 terms-returns-in_err-list-clause-spends g t c = λ from old first.
     let i = c.loop-stop.invariant in
     let r = i.read from old first in
     let k = c.in_ok-stop.ensures in
-    let op = c.in-Some.ensures.some in
-    let more = length_last c.loop-stop.nodes c.loop-stop.count (set c.loop-stop.nodes c.loop-stop.count c.term.new.node) c.sign.new.node (length-set c.loop-stop.nodes c.loop-stop.count c.term.new.node) (omega (arith, c.if-count-eq-FEW.true, i.nodes)) in
-    let placed = c.in_ok-sign.ensures.tree (factors_tree k.tree.part) c.loop-stop.a.memory
-    (subst (λ n. IsPlaced (factors_tree k.tree.part) c.loop-stop.a.memory c.term.new.a.memory n)
-    (sym (get_or-set_same c.loop-stop.nodes c.loop-stop.count c.term.new.node _ (omega (arith, i.few, i.nodes)))) k.tree.placed) in
-    let read = kid_negated _ (kid_read _ r.later k.tree.later r.spends k.spends (read_frame r.row)) c.in_ok-sign.ensures.spends
-    (frees_then (read_frame r.row) k.tree.placed.frame) in
-    let long = read_length (terms_more c.loop-stop.minus r.part k.tree.part
-    (row_last (set c.loop-stop.nodes c.loop-stop.count c.term.new.node) c.loop-stop.count (OfExpr (signed_tree c.loop-stop.minus (factors_tree k.tree.part))) c.sign.new.node (omega (arith, c.if-count-eq-FEW.true, i.nodes, length-set c.loop-stop.nodes c.loop-stop.count c.term.new.node)) (row_again c.loop-stop.nodes c.loop-stop.count c.term.new.node r.row) placed)) in
-    let full = length-take c.loop-stop.count c.loop-stop.nodes in
-    err_up_to _ _ _ _ c.from_residual-in_err-list.ensures (arena_stops _ (asks_of (asked_few (ATerm (joined c.loop-stop.minus r.part k.tree.part) c.in-Some.less) (reads_then (reads_terms c.loop-stop.minus r.part k.tree.part r.read k.tree.read) (reads_sign c.requires.nest c.in-Some.less op))
-    (λ none. inr (omega (arith, none, long, more, full, c.if-count-eq-FEW.true, i.nodes, i.held.within), 3, refl)) i.doubled
-    (omega (arith, more, full, c.if-count-eq-FEW.true, i.nodes)) i.held.within (omega (arith, long)))
-    (spends_then read c.in_err-list.ensures.spends (frees_then (read_frame r.row) placed.frame) (omega (arith, op.within)) (omega (arith, more, op.within)) (omega (arith, more, op.within)))))
+    let four = set_twice c.loop-stop.nodes c.loop-stop.count c.term.new.node c.sign.new.node i.nodes in
+    let b = all_behind (term_more _ c.loop-stop.count i.few.0 i.nodes c.requires.nest k.spends c.loop-stop.minus _
+    (i.read from old first) k.tree c.in_ok-sign.ensures.spends c.in_ok-sign.ensures.tree)
+    (omega (arith, four, c.if-count-eq-FEW.true)) in
+    err_up_to _ _ _ _ c.from_residual-in_err-list.ensures (arena_stops _ (asks_of
+    (asked_four (ATerm (joined c.loop-stop.minus r.part k.tree.part) c.in-Some.less)
+    (reads_then b.read (reads_sign c.requires.nest c.in-Some.less c.in-Some.ensures.some)) b.row i.doubled i.held.within four)
+    (put_all b c.in_err-list.ensures.spends (omega (arith, k.tree.within)) (omega arith))))
 
 pub terms-loop-stop-preserved-then-count-eq-FEW : goal.terms-loop-stop-preserved-then-count-eq-FEW
 terms-loop-stop-preserved-then-count-eq-FEW g t c =
@@ -429,26 +379,18 @@ terms-loop-stop-preserved-then-count-eq-FEW g t c =
     let k = c.in_ok-stop.ensures in
     let op = c.in-Some.ensures.some in
     let put = c.in_ok-list.ensures in
-    let more = length_last c.loop-stop.nodes c.loop-stop.count (set c.loop-stop.nodes c.loop-stop.count c.term.new.node) c.sign.new.node (length-set c.loop-stop.nodes c.loop-stop.count c.term.new.node) (omega (arith, c.if-count-eq-FEW.true, i.nodes)) in
-    let full : length (set (set c.loop-stop.nodes c.loop-stop.count c.term.new.node) c.loop-stop.count c.sign.new.node) ≡ 4
-    = omega (arith, more, length-take c.loop-stop.count c.loop-stop.nodes, c.if-count-eq-FEW.true, i.nodes) in
+    let four = set_twice c.loop-stop.nodes c.loop-stop.count c.term.new.node c.sign.new.node i.nodes in
     record {
       within = (omega (arith, i.within, k.tree.later, op.later), op.within);
-      few = (omega arith, omega (arith, i.few, put.len, full, k.tree.later, op.later, c.if-count-eq-FEW.true));
-      nodes = full;
+      few = (omega arith, omega (arith, i.few, put.len, four, k.tree.later, op.later, c.if-count-eq-FEW.true));
+      nodes = four;
       held = put.held;
-      doubled = subst (λ many. IsDoubled many c.in_ok-list.list.raw.cap) full
-          (put.cap 2 3 full refl (subst (λ many. IsDoubled many c.loop-stop.list.raw.cap) (sym full) i.doubled));
-      read = λ from old first.
-          let r = i.read from old first in
-          let placed = c.in_ok-sign.ensures.tree (factors_tree k.tree.part) c.loop-stop.a.memory
-          (subst (λ n. IsPlaced (factors_tree k.tree.part) c.loop-stop.a.memory c.term.new.a.memory n)
-          (sym (get_or-set_same c.loop-stop.nodes c.loop-stop.count c.term.new.node _ (omega (arith, i.few, i.nodes)))) k.tree.placed) in
-          let read = kid_negated _ (kid_read _ r.later k.tree.later r.spends k.spends (read_frame r.row)) c.in_ok-sign.ensures.spends
-          (frees_then (read_frame r.row) k.tree.placed.frame) in
-          read_into c.loop-stop.list (take c.loop-stop.count c.loop-stop.nodes) (set (set c.loop-stop.nodes c.loop-stop.count c.term.new.node) c.loop-stop.count c.sign.new.node) more r.few r.later k.tree.later op.later (joined c.loop-stop.minus r.part k.tree.part) (reads_then (reads_terms c.loop-stop.minus r.part k.tree.part r.read k.tree.read) (reads_sign c.requires.nest c.in-Some.less op)) read (frees_then (read_frame r.row) placed.frame) put.spends put.len (put.row _ _
-          (terms_more c.loop-stop.minus r.part k.tree.part
-          (row_last (set c.loop-stop.nodes c.loop-stop.count c.term.new.node) c.loop-stop.count (OfExpr (signed_tree c.loop-stop.minus (factors_tree k.tree.part))) c.sign.new.node (omega (arith, c.if-count-eq-FEW.true, i.nodes, length-set c.loop-stop.nodes c.loop-stop.count c.term.new.node)) (row_again c.loop-stop.nodes c.loop-stop.count c.term.new.node r.row) placed)));
+      doubled = subst (λ many. IsDoubled many c.in_ok-list.list.raw.cap) four
+          (put.cap 2 3 four refl (subst (λ many. IsDoubled many c.loop-stop.list.raw.cap) (sym four) i.doubled));
+      read = λ from old first. read_into (read_on (all_behind (term_more _ c.loop-stop.count i.few.0 i.nodes c.requires.nest k.spends c.loop-stop.minus _
+          (i.read from old first) k.tree c.in_ok-sign.ensures.spends c.in_ok-sign.ensures.tree)
+          (omega (arith, four, c.if-count-eq-FEW.true)))
+          (reads_sign c.requires.nest c.in-Some.less op)) put.spends put.len (put.row _ _);
     }
 
 pub terms-loop-stop-preserved : goal.terms-loop-stop-preserved
@@ -456,20 +398,14 @@ terms-loop-stop-preserved g t c =
     let i = c.loop-stop.invariant in
     let k = c.in_ok-stop.ensures in
     let op = c.in-Some.ensures.some in
-    let placed = c.in_ok-sign.ensures.tree (factors_tree k.tree.part) c.loop-stop.a.memory
-    (subst (λ n. IsPlaced (factors_tree k.tree.part) c.loop-stop.a.memory c.term.new.a.memory n)
-    (sym (get_or-set_same c.loop-stop.nodes c.loop-stop.count c.term.new.node _ (omega (arith, i.few, i.nodes)))) k.tree.placed) in
     record {
       within = (omega (arith, i.within, k.tree.later, op.later), op.within);
       few = (omega (arith, i.few, c.if-count-eq-FEW.false), omega (arith, i.few, k.tree.later, op.later));
-      nodes = omega (arith, length-set (set c.loop-stop.nodes c.loop-stop.count c.term.new.node) c.loop-stop.count c.sign.new.node, length-set c.loop-stop.nodes c.loop-stop.count c.term.new.node, i.nodes);
-      held = list_kept i.held placed.frame;
+      nodes = set_twice c.loop-stop.nodes c.loop-stop.count c.term.new.node c.sign.new.node i.nodes;
+      held = list_kept i.held
+          (sign_placed c.loop-stop.nodes c.loop-stop.count i.few.0 i.nodes c.loop-stop.minus _ k.tree.placed c.in_ok-sign.ensures.tree).frame;
       doubled = i.doubled;
-      read = λ from old first.
-          let r = i.read from old first in
-          let read = kid_negated _ (kid_read _ r.later k.tree.later r.spends k.spends (read_frame r.row)) c.in_ok-sign.ensures.spends
-          (frees_then (read_frame r.row) k.tree.placed.frame) in
-          read_beside c.loop-stop.list (take c.loop-stop.count c.loop-stop.nodes) (take (c.loop-stop.count + 1) (set (set c.loop-stop.nodes c.loop-stop.count c.term.new.node) c.loop-stop.count c.sign.new.node)) (length_next c.loop-stop.nodes c.loop-stop.count (set c.loop-stop.nodes c.loop-stop.count c.term.new.node) c.sign.new.node (length-set c.loop-stop.nodes c.loop-stop.count c.term.new.node) (omega (arith, i.few, i.nodes))) r.few r.later k.tree.later op.later (joined c.loop-stop.minus r.part k.tree.part) (reads_then (reads_terms c.loop-stop.minus r.part k.tree.part r.read k.tree.read) (reads_sign c.requires.nest c.in-Some.less op)) read
-          (terms_more c.loop-stop.minus r.part k.tree.part
-          (row_next (set c.loop-stop.nodes c.loop-stop.count c.term.new.node) c.loop-stop.count (OfExpr (signed_tree c.loop-stop.minus (factors_tree k.tree.part))) c.sign.new.node (omega (arith, i.few, i.nodes, length-set c.loop-stop.nodes c.loop-stop.count c.term.new.node)) (row_again c.loop-stop.nodes c.loop-stop.count c.term.new.node r.row) placed));
+      read = λ from old first. read_on (term_more _ c.loop-stop.count i.few.0 i.nodes c.requires.nest k.spends c.loop-stop.minus _
+          (i.read from old first) k.tree c.in_ok-sign.ensures.spends c.in_ok-sign.ensures.tree)
+          (reads_sign c.requires.nest c.in-Some.less op);
     }

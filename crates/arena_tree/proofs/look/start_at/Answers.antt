@@ -3,13 +3,11 @@ use Rattle.std.proofs.lemmas.Bool.Decides.{nat_tests}
 use Rattle.std.specs.Prelude.{slice_index, slice_range}
 use Rattle.tree_rules.specs.Reading.{state}
 use Rattle.tree_rules.specs.declared.machine.Mode.TheVariants.{AtFactor}
-use Rattle.arena_tree.specs.Parts.{NoFactor}
-use Rattle.arena_tree.proofs.TokenLemmas.{some_token, only_number, sign_token, no_start, no_keyword, word_token, if_none}
+use Rattle.arena_tree.proofs.TokenLemmas.{only_number, sign_token, no_start, no_keyword, word_token, none_at}
 use Rattle.arena_tree.proofs.look.start_at.Goals as goal
 
 pub returns-in_err-here-clause-none : goal.returns-in_err-here-clause-none
-returns-in_err-here-clause-none c = if_none (NoFactor c.args.src.now c.args.at) _ (λ opens p.
-    some_token c.args.src.now c.args.at (state AtFactor opens) refl p c.in_err-here.ensures.none)
+returns-in_err-here-clause-none c = none_at _ _ (state AtFactor) (λ x. refl) c.in_err-here.ensures.none _
 
 pub returns-in-45-clause-some : goal.returns-in-45-clause-some
 returns-in-45-clause-some c =

@@ -11,7 +11,7 @@ use Rattle.tree_nodes.specs.declared.node.Node.{Node}
 use Rattle.arena_tree.specs.Parts.{IsPassed, Reads}
 use Rattle.arena_tree.specs.Layouts.{ALine, spell_to}
 use Rattle.arena_tree.specs.Subtrees.{OfStmt}
-use Rattle.arena_tree.specs.LineParts.{at_line, line_at, NoLineIn}
+use Rattle.arena_tree.specs.LineParts.{at_line, line_at}
 use Rattle.tree_nodes.proofs.LinesLemmas.{block_placed}
 use Rattle.tree_nodes.proofs.RowLemmas.{row_none, stmts_built, stmts_more}
 use Rattle.arena_tree.proofs.PartLemmas.{opens_brace, closes_brace, deep_brace, refused_then}
@@ -41,8 +41,7 @@ block-returns-then-deep-eq-MOST_OPEN-clause-text g t c = deep_brace c.requires.n
 pub block-returns-in_err-list-clause-text : goal.block-returns-in_err-list-clause-text
 block-returns-in_err-list-clause-text g t c =
     let brace = opens_brace c.requires.nest c.if-deep-eq-MOST_OPEN.false c.requires.start in
-    err_text (Vec Node × ℕ) (NoLineIn (c.args.deep + 1) c.args.src.now c.args.behind) (NoLineIn c.args.deep c.args.src.now c.args.at) _ _
-    c.from_residual.ensures (λ no. refused_then brace (λ u. no) tt) c.in_err-list.ensures.text
+    err_text (Vec Node × ℕ) _ _ _ _ c.from_residual.ensures (λ no. refused_then brace (λ u. no) tt) c.in_err-list.ensures.text
 
 pub block-returns-in_default-clause-text : goal.block-returns-in_default-clause-text
 block-returns-in_default-clause-text g t c =
@@ -119,9 +118,8 @@ pub line-returns-in-None-clause-text : goal.line-returns-in-None-clause-text
 line-returns-in-None-clause-text g t c = c.in-None.ensures.none (record { depth = c.args.deep; low = c.requires.nest })
 
 pub lines-returns-in_err-line-clause-text : goal.lines-returns-in_err-line-clause-text
-lines-returns-in_err-line-clause-text g t c = err_text (Option ℕ) (NoLineIn c.args.deep c.args.src.now c.loop-list.here)
-    (NoLineIn c.args.deep c.args.src.now c.args.at) _ _ c.from_residual.ensures
-    (λ no p. no (sym c.loop-list.invariant.read.same ∙ p)) c.in_err-line.ensures.text
+lines-returns-in_err-line-clause-text g t c = err_text (Option ℕ) _ _ _ _ c.from_residual.ensures (λ no p. no (sym c.loop-list.invariant.read.same ∙ p))
+    c.in_err-line.ensures.text
 
 pub lines-returns-in-None-clause-spends : goal.lines-returns-in-None-clause-spends
 lines-returns-in-None-clause-spends g t c =

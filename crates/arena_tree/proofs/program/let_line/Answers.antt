@@ -7,9 +7,8 @@ use Rattle.arena_tree.proofs.PartCostLemmas.{err_up_to, err_text, arena_stops, s
 use Rattle.std.specs.Prelude.{slice_range}
 use Rattle.tree_rules.specs.Trees.{NoExprs, And}
 use Rattle.tree_rules.specs.Grammar.{LetLine, Empty, terms_tree}
-use Rattle.arena_tree.specs.Parts.{NoTermsIn}
 use Rattle.arena_tree.specs.Layouts.{ALine}
-use Rattle.arena_tree.specs.LineParts.{Depth, NoLineIn}
+use Rattle.arena_tree.specs.LineParts.{Depth}
 use Rattle.tree_nodes.proofs.LinesLemmas.{let_node_placed}
 use Rattle.tree_nodes.proofs.RowLemmas.{exprs_built}
 use Rattle.arena_tree.proofs.PartLemmas.{reads_then, reads_in, in_braces, reads_value}
@@ -36,8 +35,8 @@ returns-clause-tree g c =
 pub returns-in_err-stop-clause-text : goal.returns-in_err-stop-clause-text
 returns-in_err-stop-clause-text g c =
     let first = reads_in (depth c.args.deep c.requires.nest) c.requires.first in
-    err_text ℕ (NoTermsIn c.args.deep c.args.src.now c.args.behind) (NoLineIn c.args.deep c.args.src.now c.args.at) _ _
-    c.from_residual-in_err-stop.ensures (λ no p. no (in_braces c.args.deep) (sym (first.same tt) ∙ p)) c.in_err-stop.ensures.text
+    err_text ℕ _ _ _ _ c.from_residual-in_err-stop.ensures (λ no p. no (in_braces c.args.deep) (sym (first.same tt) ∙ p))
+    c.in_err-stop.ensures.text
 
 pub returns-in_default-clause-text : goal.returns-in_default-clause-text
 returns-in_default-clause-text g c p =

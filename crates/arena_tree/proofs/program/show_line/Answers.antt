@@ -4,9 +4,7 @@ use Rattle.tree_nodes.proofs.SpendingLemmas.{asks_of, asks_any, spends_then, fre
 use Rattle.arena_tree.proofs.PartCostLemmas.{err_up_to, err_text, arena_stops, text_stops}
 use Rattle.tree_rules.specs.Trees.{NoExprs, And}
 use Rattle.tree_rules.specs.Grammar.{ShowLine, Empty, terms_tree}
-use Rattle.arena_tree.specs.Parts.{NoTermsIn}
 use Rattle.arena_tree.specs.Layouts.{ALine}
-use Rattle.arena_tree.specs.LineParts.{NoLineIn}
 use Rattle.tree_nodes.proofs.LinesLemmas.{show_placed}
 use Rattle.tree_nodes.proofs.RowLemmas.{exprs_built}
 use Rattle.arena_tree.proofs.PartLemmas.{in_braces, reads_value}
@@ -30,9 +28,8 @@ returns-clause-tree g c =
     }
 
 pub returns-in_err-stop-clause-text : goal.returns-in_err-stop-clause-text
-returns-in_err-stop-clause-text g c = err_text ℕ (NoTermsIn c.args.deep c.args.src.now c.args.at)
-    (NoLineIn c.args.deep c.args.src.now c.args.at) _ _ c.from_residual.ensures
-    (λ no p. no (in_braces c.args.deep) (sym (c.requires.starts c.args.deep) ∙ p)) c.in_err-stop.ensures.text
+returns-in_err-stop-clause-text g c = err_text ℕ _ _ _ _ c.from_residual.ensures (λ no p. no (in_braces c.args.deep) (sym (c.requires.starts c.args.deep) ∙ p))
+    c.in_err-stop.ensures.text
 
 pub returns-in_default-clause-text : goal.returns-in_default-clause-text
 returns-in_default-clause-text g c p =
