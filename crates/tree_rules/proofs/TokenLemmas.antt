@@ -1,13 +1,13 @@
 -- The tokens of pieces of text, one after another.
-use Rattle.std.proofs.Common.{◌≡◌, ℕ, zero, suc, ◌+◌, ◌-◌, ◌*◌, ◌%◌, ◌<◌, Bool, true, false, List, [], ◌∷◌, ◌++◌, length, get_or, length-append, refl, ap, ◌∙◌, arith, codes}
+use Rattle.std.proofs.Common.{◌≡◌, ℕ, zero, suc, ◌+◌, ◌-◌, ◌*◌, ◌%◌, ◌<◌, ◌==◌, Bool, true, false, List, [], ◌∷◌, ◌++◌, length, get_or, length-append, refl, ap, ◌∙◌, arith, codes}
 use Rattle.std.specs.Prelude.{bytes_eq}
-use Rattle.std.specs.List.{list_all}
+use Rattle.std.specs.List.{list_all, AllByRecursion}
 use Rattle.std.proofs.lemmas.Bool.Decides.{nat_tests}
 use Rattle.call_rules.specs.Grammar.{number}
 use Rattle.call_rules.proofs.NumberLemmas.{number_by_steps}
-use Rattle.tree_rules.specs.Tokens.{Token, LetKey, Word, Number, Other, is_space, is_digit, is_name_start, is_name_byte, run, word, value, has_needless_zero, number_token, Front, word_front, number_front, other_front, front, tokens_from, without_places}
+use Rattle.tree_rules.specs.Tokens.{Token, LetKey, Word, Number, Other, is_space, is_digit, is_name_start, is_name_byte, run, value, has_needless_zero, Front, look_up, word_front, number_front, sign_front, other_front, front, tokens_from, without_places}
 use Rattle.tree_rules.specs.Trees.{IsName}
-use Rattle.std.proofs.lemmas.Bool.{and_parts, or_left, cond-true, cond-false}
+use Rattle.std.proofs.lemmas.Bool.{and_parts, or_left, cond-true, cond-false, cond_both}
 use Rattle.std.proofs.lemmas.List.Folds.{list_all-append}
 
 -- the tokens after the first bytes, this many
@@ -27,6 +27,19 @@ unfolding lex
 lex_behind [] [] = refl
 lex_behind [] (b ∷ rest) = refl
 lex_behind (x ∷ xs) rest = lex_behind xs rest
+
+-- what holds of numbers, words and signs holds of the front of a text
+pub front_by : (b : ℕ) (bytes : List ℕ) (P : Front → Type 0) → (is_digit b ≡ true → P (number_front (run is_digit (b ∷ bytes))))
+    → (is_name_start b ≡ true → P (word_front (run is_name_byte (b ∷ bytes)))) → P (sign_front b) → P (front b bytes)
+unfolding front
+front_by b bytes P digits name other =
+    cond_both (is_digit b) _ _ P digits (λ d. cond_both (is_name_start b) _ _ P name (λ s. other))
+
+-- and what holds of each sign's token, and of one that no program has, of the token at a byte
+pub sign_by : (b : ℕ) (P : Token → Type 0) → P Other → (rows : List (ℕ × Token)) → AllByRecursion (λ (row : ℕ × Token). P row.1) rows
+    → P (look_up rows b)
+sign_by b P other [] all = other
+sign_by b P other (row ∷ rows) all = cond_both (b == row.0) _ _ P (λ h. all.0) (λ h. sign_by b P other rows all.1)
 
 -- nothing, or a byte that continues no name or number
 abbrev pub Stops : List ℕ → Type 0
@@ -49,24 +62,22 @@ digit_stops (b ∷ bytes) h = grind (arith, nat_tests)
 
 -- ---- Names
 
-start_no_digit : (b : ℕ) → is_name_start b ≡ true → is_digit b ≡ false
-start_no_digit b h = grind (arith, nat_tests)
-
-start_no_space : (b : ℕ) → is_name_start b ≡ true → is_space b ≡ false
-start_no_space b h = grind (arith, nat_tests)
-
-digit_no_space : (b : ℕ) → is_digit b ≡ true → is_space b ≡ false
-digit_no_space b h = grind (arith, nat_tests)
-
 -- a token at a byte that is no space, and those after it
-lex_front : (b : ℕ) (bytes : List ℕ) (f : Front) → is_space b ≡ false → front b bytes ≡ f
-    → lex 0 (b ∷ bytes) ≡ f.token ∷ lex (f.length - 1) bytes
+lex_front : (b : ℕ) (bytes rest : List ℕ) (t : Token) (f : Front) → is_space b ≡ false → front b (bytes ++ rest) ≡ f → f.token ≡ t
+    → f.length ≡ suc (length bytes) → lex 0 (b ∷ bytes ++ rest) ≡ t ∷ lex 0 rest
 unfolding lex
-lex_front b bytes f space is = by (is_space b) space ∙ ap (λ (g : Front). g.token ∷ lex (g.length - 1) bytes) is
+lex_front b bytes rest t f space is token long =
+    let one_less : f.length - 1 ≡ length bytes = omega (arith, long) in
+    by (is_space b) space ∙ ap (λ (g : Front). g.token ∷ lex (g.length - 1) (bytes ++ rest)) is
+    ∙ (λ i. token i ∷ lex (one_less i) (bytes ++ rest)) ∙ ap (λ ts. t ∷ ts) (lex_behind bytes rest)
   where
     by : (s : Bool) → s ≡ false
-        → elim s [ true ↦ lex 0 bytes | false ↦ (front b bytes).token ∷ lex ((front b bytes).length - 1) bytes ]
-        ≡ (front b bytes).token ∷ lex ((front b bytes).length - 1) bytes
+        → elim s [
+          | true ↦ lex 0 (bytes ++ rest)
+          | false ↦ (front b (bytes ++ rest)).token ∷ lex ((front b (bytes ++ rest)).length - 1)
+              (bytes ++ rest)
+        ]
+        ≡ (front b (bytes ++ rest)).token ∷ lex ((front b (bytes ++ rest)).length - 1) (bytes ++ rest)
     by true h = cc
     by false h = refl
 
@@ -76,7 +87,8 @@ name_front b bytes rest h stop =
     let start : is_name_start b ≡ true = h.0 in
     let all : list_all is_name_byte (b ∷ bytes) ≡ true
     = rw (or_left (is_name_start b) (is_digit b) start) h.1 in
-    cond-false (is_digit b) (number_front (run is_digit (b ∷ bytes ++ rest))) (other_front b (bytes ++ rest)) (start_no_digit b start)
+    let no_digit : is_digit b ≡ false = grind (arith, nat_tests, start) in
+    cond-false (is_digit b) (number_front (run is_digit (b ∷ bytes ++ rest))) (other_front b (bytes ++ rest)) no_digit
     ∙ cond-true (is_name_start b) _ _ start
     ∙ ap word_front (run_stops is_name_byte (b ∷ bytes) rest all (name_stops rest stop))
 
@@ -84,12 +96,9 @@ pub lex_name : (bytes rest : List ℕ) → IsName bytes → Stops rest → lex 0
 lex_name [] rest h stop = absurd h
 lex_name (b ∷ bytes) rest h stop =
     let start : is_name_start b ≡ true = h.0 in
-    let is_word : word (b ∷ bytes) ≡ Word (b ∷ bytes) = cond-false (bytes_eq (b ∷ bytes) (codes "let")) LetKey (Word (b ∷ bytes)) h.2 in
-    let one_less : suc (length bytes) - 1 ≡ length bytes = omega arith in
-    lex_front b (bytes ++ rest) (word_front (b ∷ bytes)) (start_no_space b start) (name_front b bytes rest h stop)
-    ∙ ap (λ t. t ∷ lex (suc (length bytes) - 1) (bytes ++ rest)) is_word
-    ∙ ap (λ n. Word (b ∷ bytes) ∷ lex n (bytes ++ rest)) one_less
-    ∙ ap (λ ts. Word (b ∷ bytes) ∷ ts) (lex_behind bytes rest)
+    let no_space : is_space b ≡ false = grind (arith, nat_tests, start) in
+    lex_front b bytes rest (Word (b ∷ bytes)) (word_front (b ∷ bytes)) no_space (name_front b bytes rest h stop)
+    (cond-false (bytes_eq (b ∷ bytes) (codes "let")) LetKey (Word (b ∷ bytes)) h.2) refl
 
 -- ---- Numbers
 
@@ -151,13 +160,9 @@ digits_lex n (d ∷ ds) rest h stop =
     let front_is : front d (ds ++ rest) ≡ number_front (d ∷ ds)
     = cond-true (is_digit d) (number_front (run is_digit (d ∷ ds ++ rest))) (other_front d (ds ++ rest)) parts.0
     ∙ ap number_front (run_stops is_digit (d ∷ ds) rest h.digits (digit_stops rest stop)) in
-    let token_is : number_token (d ∷ ds) ≡ Number n
-    = cond-false (has_needless_zero (d ∷ ds)) Other (Number (value 0 (d ∷ ds))) h.needless ∙ ap Number h.value_is in
-    let one_less : suc (length ds) - 1 ≡ length ds = omega arith in
-    lex_front d (ds ++ rest) (number_front (d ∷ ds)) (digit_no_space d parts.0) front_is
-    ∙ ap (λ t. t ∷ lex (suc (length ds) - 1) (ds ++ rest)) token_is
-    ∙ ap (λ k. Number n ∷ lex k (ds ++ rest)) one_less
-    ∙ ap (λ ts. Number n ∷ ts) (lex_behind ds rest)
+    let no_space : is_space d ≡ false = grind (arith, nat_tests, parts.0) in
+    lex_front d ds rest (Number n) (number_front (d ∷ ds)) no_space front_is
+    (cond-false (has_needless_zero (d ∷ ds)) Other (Number (value 0 (d ∷ ds))) h.needless ∙ ap Number h.value_is) refl
 
 pub lex_number : (n : ℕ) (rest : List ℕ) → Stops rest → lex 0 (number n ++ rest) ≡ Number n ∷ lex 0 rest
 lex_number n rest stop = digits_lex n (number n) rest (number_digits n) stop

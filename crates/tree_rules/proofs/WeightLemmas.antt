@@ -1,11 +1,12 @@
 -- The definitions and blocks of a text weigh at most its bytes.
-use Rattle.std.proofs.Common.{◌≡◌, ℕ, zero, suc, ◌+◌, ◌-◌, ◌≤◌, ◌||◌, Bool, true, false, cond, List, [], ◌∷◌, length, refl, sym, subst, arith, Ok}
-use Rattle.std.specs.List.{AllByRecursion}
-use Rattle.tree_rules.specs.Tokens.{Token, LetKey, Word, Plus, Minus, Star, RightParen, RightBrace, Semicolon, Other, is_digit, is_name_start, is_name_byte, run, look_up, signs, has_needless_zero, word_front, number_front, sign_front, front, tokens_from, without_places}
+use Rattle.std.proofs.Common.{◌≡◌, ℕ, zero, suc, ◌+◌, ◌-◌, ◌≤◌, Bool, true, List, [], ◌∷◌, length, sym, subst, arith, Ok}
+use Rattle.tree_rules.specs.Tokens.{Token, LetKey, Word, Plus, Minus, Star, RightParen, RightBrace, Semicolon, Other, is_digit, is_name_start, is_name_byte, run, signs, has_needless_zero, front, tokens_from, without_places}
 use Rattle.tree_rules.specs.Trees.{Stmt, Stmts, NoStmts, Then, with_stmt}
 use Rattle.tree_rules.specs.Grammar.{Factor, ANumber, AName, InParens, Negated, Factors, OneFactor, Times, Terms, OneTerm, Added, Taken, Line, LetLine, ShowLine, BlockLine, Program, Empty, Next, spell_factor, spell_factors, spell_terms, spell_line, spell, line_tree, trees_of}
 use Rattle.tree_rules.specs.Refusals.{TreeOf}
 use Rattle.tree_rules.specs.Weights.{weight, weights}
+use Rattle.std.proofs.lemmas.Bool.{cond_both}
+use Rattle.tree_rules.proofs.TokenLemmas.{front_by, sign_by}
 
 -- the most that a token adds
 abbrev letters : Token → ℕ
@@ -61,47 +62,35 @@ record IsFront (token : Token) (n most : ℕ) : Type 0 where
   pub few : n ≤ most
   pub covers : letters token ≤ n
 
-one_letter : (c : Bool) (t u : Token) (n : ℕ) → letters t ≤ n → letters u ≤ n → letters (cond c t u) ≤ n
-one_letter true t u n first other = first
-one_letter false t u n first other = other
-
-sign_letters : (rows : List (ℕ × Token)) (b : ℕ) → AllByRecursion (λ (row : ℕ × Token). letters row.1 ≤ 1) rows
-    → letters (look_up rows b) ≤ 1
-sign_letters [] b all = omega arith
-sign_letters (row ∷ rows) b all = one_letter _ row.1 (look_up rows b) 1 all.0 (sign_letters rows b all.1)
-
 front_is : (b : ℕ) (bytes : List ℕ) → IsFront (front b bytes).token (front b bytes).length (suc (length bytes))
-unfolding front
-front_is b bytes = by (is_digit b) (is_name_start b) refl refl
-  where
-    begun : (passes : ℕ → Bool) → passes b ≡ true → 1 ≤ length (run passes (b ∷ bytes))
-    begun passes is = rw is (omega arith)
-
-    word-start : (p q : Bool) → p ≡ true → 1 ≤ length (cond (p || q) (b ∷ run is_name_byte bytes) [])
-    word-start p q is = rw is (omega arith)
-
-    signs-small : letters (look_up signs b) ≤ 1
-    signs-small =
-        let one : 1 ≤ 1 = omega arith in
-        sign_letters signs b (one, (one, (one, (one, (one, (one, (one, (one, (one, tt)))))))))
-
-    by : (digit start : Bool) → is_digit b ≡ digit → is_name_start b ≡ start
-        → IsFront (cond digit (number_front (run is_digit (b ∷ bytes))) (cond start (word_front (run is_name_byte (b ∷ bytes)))
-        (sign_front b))).token
-        (cond digit (number_front (run is_digit (b ∷ bytes))) (cond start (word_front (run is_name_byte (b ∷ bytes))) (sign_front
-        b))).length
-        (suc (length bytes))
-    by true start is s = record {
-      some = begun is_digit is;
+front_is b bytes = front_by b bytes (λ f. IsFront f.token f.length (suc (length bytes)))
+    (λ is. record {
+      some = begun is;
       few = run_length is_digit (b ∷ bytes);
-      covers = one_letter (has_needless_zero (run is_digit (b ∷ bytes))) Other _ _ (begun is_digit is) (begun is_digit is);
-    }
-    by false true d is = record {
-      some = word-start (is_name_start b) (is_digit b) is;
+      covers = cond_both (has_needless_zero (run is_digit (b ∷ bytes))) Other _ (λ t. letters t ≤ length (run is_digit (b ∷ bytes)))
+          (λ h. begun is) (λ h. begun is);
+    })
+    (λ is. record {
+      some = word-start is;
       few = run_length is_name_byte (b ∷ bytes);
-      covers = one_letter _ LetKey (Word (run is_name_byte (b ∷ bytes))) _ (word-start (is_name_start b) (is_digit b) is) (omega arith);
-    }
-    by false false d is = record { some = omega arith; few = omega arith; covers = signs-small }
+      covers = cond_both _ LetKey (Word (run is_name_byte (b ∷ bytes))) (λ t. letters t ≤ length (run is_name_byte (b ∷ bytes)))
+          (λ h. word-start is) (λ h. omega arith);
+    })
+    (record {
+      some = omega arith;
+      few = omega arith;
+      covers = sign_by b (λ t. letters t ≤ 1) one signs
+          (one, (one, (one, (one, (one, (one, (one, (one, (one, tt)))))))));
+    })
+  where
+    one : 1 ≤ 1
+    one = omega arith
+
+    begun : is_digit b ≡ true → 1 ≤ length (run is_digit (b ∷ bytes))
+    begun is = rw is (omega arith)
+
+    word-start : is_name_start b ≡ true → 1 ≤ length (run is_name_byte (b ∷ bytes))
+    word-start is = rw is (omega arith)
 
 tokens_letters : (at skip : ℕ) (bytes : List ℕ) → all_letters (without_places (tokens_from at skip bytes)) ≤ length bytes - skip
 unfolding tokens_from

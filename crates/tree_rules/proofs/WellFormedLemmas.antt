@@ -1,12 +1,13 @@
 -- The tree of a text is well formed: its names are names, its sums and products have several children, its numbers fit.
 use Rattle.std.proofs.Common.{◌≡◌, ℕ, zero, suc, ◌-◌, Bool, true, false, cond, List, [], ◌∷◌, refl, subst, sym, codes, arith}
-use Rattle.std.specs.Prelude.{◌||◌, IsFalse, bytes_eq}
+use Rattle.std.specs.Prelude.{◌||◌, bytes_eq}
 use Rattle.std.specs.List.{list_all, AllByRecursion}
-use Rattle.tree_rules.specs.Tokens.{Token, LetKey, Word, Plus, Minus, Star, RightParen, RightBrace, Semicolon, Other, is_space, is_digit, is_name_start, is_name_byte, run, word, look_up, signs, sign, has_needless_zero, number_token, word_front, number_front, sign_front, front, tokens, without_places}
+use Rattle.tree_rules.specs.Tokens.{Token, Word, Plus, Minus, Star, RightParen, RightBrace, Semicolon, is_space, is_digit, is_name_start, is_name_byte, run, word, signs, has_needless_zero, number_token, front, tokens, without_places}
 use Rattle.tree_rules.specs.Trees.{Expr, Neg, Exprs, NoExprs, And, with_expr, Stmt, Stmts, NoStmts, Then, with_stmt, IsName, AreSeveral, IsExpr, AreExprs, IsStmt, AreStmts, HasSmall, HaveSmall, StmtFits, StmtsFit}
 use Rattle.tree_rules.specs.Grammar.{Factor, ANumber, AName, InParens, Negated, Factors, OneFactor, Times, Terms, OneTerm, Added, Taken, Line, LetLine, ShowLine, BlockLine, Program, Empty, Next, spell_factor, spell_factors, spell_terms, spell_line, spell, factor_tree, factors_tree, factor_trees, terms_tree, term_trees, line_tree, trees_of}
 use Rattle.tree_rules.specs.Refusals.{Fits, IsGood}
-use Rattle.tree_rules.proofs.TokenLemmas.{lex, lex_is}
+use Rattle.std.proofs.lemmas.Bool.{cond_both}
+use Rattle.tree_rules.proofs.TokenLemmas.{lex, lex_is, front_by, sign_by}
 
 -- ---- The words of a text are names
 
@@ -14,44 +15,21 @@ abbrev IsNamed : Token → Type 0
 IsNamed (Word bytes) = IsName bytes
 IsNamed t = Unit {0}
 
-chosen_named : (b c : Bool) (t u : Token) → b ≡ c → (c ≡ true → IsNamed t) → (c ≡ false → IsNamed u) → IsNamed (cond b t u)
-chosen_named b true t u is first other = subst (λ c. IsNamed (cond c t u)) (sym is) (first refl)
-chosen_named b false t u is first other = subst (λ c. IsNamed (cond c t u)) (sym is) (other refl)
-
-word_named : (bytes : List ℕ) → (IsFalse (bytes_eq bytes (codes "let")) → IsName bytes) → IsNamed (word bytes)
-word_named bytes name = chosen_named (bytes_eq bytes (codes "let")) (bytes_eq bytes (codes "let")) LetKey (Word bytes) refl (λ h. tt) name
-
-number_named : (digits : List ℕ) → IsNamed (number_token digits)
-number_named digits =
-    chosen_named (has_needless_zero digits) (has_needless_zero digits) Other _ refl (λ h. tt) (λ h. tt)
-
 run_all : (passes : ℕ → Bool) (bytes : List ℕ) → list_all passes (run passes bytes) ≡ true
 run_all passes [] = refl
 run_all passes (b ∷ bytes) = grind (arith, run_all passes bytes)
 
--- names that begin at a byte that may begin one
-begun : (b : ℕ) (bytes : List ℕ) → is_name_start b ≡ true → IsNamed (word (run is_name_byte (b ∷ bytes)))
-begun b bytes start =
-    subst (λ s. IsNamed (word (cond (s || is_digit b) (b ∷ run is_name_byte bytes) []))) (sym start)
-    (word_named (b ∷ run is_name_byte bytes) (λ other. (start, run_all is_name_byte bytes, other)))
-
-sign_named : (b : ℕ) → IsNamed (sign b)
-sign_named b = looked signs (tt, (tt, (tt, (tt, (tt, (tt, (tt, (tt, (tt, tt)))))))))
-  where
-    looked : (rows : List (ℕ × Token)) → AllByRecursion (λ (row : ℕ × Token). IsNamed row.1) rows → IsNamed (look_up rows b)
-    looked [] all = tt
-    looked (row ∷ rows) all = chosen_named _ _ row.1 (look_up rows b) refl (λ h. all.0) (λ h. looked rows all.1)
-
 front_named : (b : ℕ) (bytes : List ℕ) → IsNamed (front b bytes).token
-unfolding front
-front_named b bytes = by (is_digit b) (is_name_start b) refl
+front_named b bytes = front_by b bytes (λ f. IsNamed f.token) (λ d. number) word_named
+    (sign_by b IsNamed tt signs (tt, (tt, (tt, (tt, (tt, (tt, (tt, (tt, (tt, tt))))))))))
   where
-    by : (digit start : Bool) → is_name_start b ≡ start
-        → IsNamed (cond digit (number_front (run is_digit (b ∷ bytes))) (cond start (word_front (run is_name_byte (b ∷ bytes)))
-        (sign_front b))).token
-    by true start is = number_named (run is_digit (b ∷ bytes))
-    by false true is = begun b bytes is
-    by false false is = sign_named b
+    number : IsNamed (number_token (run is_digit (b ∷ bytes)))
+    number = cond_both (has_needless_zero (run is_digit (b ∷ bytes))) _ _ IsNamed (λ h. tt) (λ h. tt)
+
+    word_named : is_name_start b ≡ true → IsNamed (word (run is_name_byte (b ∷ bytes)))
+    word_named start = subst (λ s. IsNamed (word (cond (s || is_digit b) (b ∷ run is_name_byte bytes) []))) (sym start)
+        (cond_both (bytes_eq (b ∷ run is_name_byte bytes) (codes "let")) _ _ IsNamed (λ h. tt)
+        (λ other. (start, run_all is_name_byte bytes, other)))
 
 lex_named : (skip : ℕ) (bytes : List ℕ) → AllByRecursion IsNamed (lex skip bytes)
 unfolding lex
