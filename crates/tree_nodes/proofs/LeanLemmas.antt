@@ -1,6 +1,7 @@
 -- Nodes that hold nothing that their kinds don't use.
 use Rattle.std.proofs.Common.{◌≡◌, ℕ, zero, suc, ap, sym, refl, subst, ◌∙◌, true, List, [], ◌∷◌, ◌++◌, drop, append-nil}
 use Rattle.arena_chunks.specs.Memory.{Memory}
+use Rattle.arena_store.specs.declared.block.Block.{Block}
 use Rattle.arena_items.specs.Footprint.{Agree}
 use Rattle.arena_items.proofs.Layers.{elements-empty}
 use Rattle.arena_vec.specs.Vecs.{vec_list}
@@ -78,25 +79,24 @@ one_block e m [] = refl
 one_block e m (k ∷ ks) = sym (append-nil (expr_blocks e m k))
 
 -- The children of a node are the same, on the same blocks.
-record KidsAgree (t : Subtree) (a c : Memory) (n : Node) : Type 0 where
-  kids : kids_in c n ≡ kids_in a n
-  agree : Agree a c (row_blocks (kids_it t) a (kids_in a n))
+abbrev KidsAgree : Subtree → Memory → Memory → Node → Type 0
+KidsAgree t a c n = (kids_in c n ≡ kids_in a n) × Agree a c (row_blocks (kids_it t) a (kids_in a n))
 
 kids_agree : (t : Subtree) (a c : Memory) (n : Node) → SubtreeAt t a n → has_kids n.kind ≡ true → Agree a c (blocks_at t a n)
     → KidsAgree t a c n
-kids_agree (OfExpr (Neg e)) a c n at is same =
-    record { kids = list_same a c (kids_of n) same.0; agree = subst (Agree a c) (one_block e a (kids_in a n)) same.1 }
-kids_agree (OfExpr (Sum es)) a c n at is same =
-    record { kids = list_same a c (kids_of n) same.0; agree = subst (Agree a c) (sym (expr_blocks_are es a (kids_in a n))) same.1 }
-kids_agree (OfExpr (Prod es)) a c n at is same =
-    record { kids = list_same a c (kids_of n) same.0; agree = subst (Agree a c) (sym (expr_blocks_are es a (kids_in a n))) same.1 }
-kids_agree (OfStmt (Let name e)) a c n at is same =
-    record { kids = list_same a c (kids_of n) same.1.0; agree = subst (Agree a c) (one_block e a (kids_in a n)) same.1.1 }
-kids_agree (OfStmt (Show e)) a c n at is same =
-    record { kids = list_same a c (kids_of n) same.0; agree = subst (Agree a c) (one_block e a (kids_in a n)) same.1 }
-kids_agree (OfStmt (tree.Block body)) a c n at is same =
-    record { kids = list_same a c (kids_of n) same.0; agree = subst (Agree a c) (sym (stmt_blocks_are body a (kids_in a n))) same.1 }
-kids_agree t a c n at is same = absurd (true_false (sym is ∙ ap has_kids at.0))
+kids_agree t a c n at is same = by t at same
+  where
+    in_row : {bs cs : List Block} → bs ≡ cs → Agree a c (n.kids ∷ bs) → (kids_in c n ≡ kids_in a n) × Agree a c cs
+    in_row are same = (list_same a c (kids_of n) same.0, subst (Agree a c) are same.1)
+
+    by : (t : Subtree) → SubtreeAt t a n → Agree a c (blocks_at t a n) → KidsAgree t a c n
+    by (OfExpr (Neg e)) at same = in_row (one_block e a (kids_in a n)) same
+    by (OfExpr (Sum es)) at same = in_row (sym (expr_blocks_are es a (kids_in a n))) same
+    by (OfExpr (Prod es)) at same = in_row (sym (expr_blocks_are es a (kids_in a n))) same
+    by (OfStmt (Let name e)) at same = in_row (one_block e a (kids_in a n)) same.1
+    by (OfStmt (Show e)) at same = in_row (one_block e a (kids_in a n)) same
+    by (OfStmt (tree.Block body)) at same = in_row (sym (stmt_blocks_are body a (kids_in a n))) same
+    by t at same = absurd (true_false (sym is ∙ ap has_kids at.0))
 
 abbrev Stays : ℕ → Memory → Memory → Type 0
 Stays d a c = (ts : List Subtree) (ns : List Node) → RowAt ts a ns → Agree a c (row_blocks ts a ns) → AreLeanTo d a ns → AreLeanTo d c ns
@@ -106,7 +106,7 @@ module _ (d : ℕ) (a c : Memory) (below : Stays d a c) where
       → AreLeanTo d a (kids_in a n) → AreLeanTo d c (kids_in c n)
   branch t n at is same lean =
       let k = kids_agree t a c n at is same in
-      subst (AreLeanTo d c) (sym k.kids) (below (kids_it t) (kids_in a n) (kids_at t a n at is).stand k.agree lean)
+      subst (AreLeanTo d c) (sym k.0) (below (kids_it t) (kids_in a n) (kids_at t a n at is).stand k.1 lean)
 
   kids_stay : (t : Subtree) (n : Node) → SubtreeAt t a n → Agree a c (blocks_at t a n) → IsLean n → AreLeanTo d a (kids_in a n)
       → AreLeanTo d c (kids_in c n)

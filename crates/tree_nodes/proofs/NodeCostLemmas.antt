@@ -35,12 +35,6 @@ use Rattle.tree_nodes.specs.Spending.{IsStarvedBehind, Stops, Spends, SpendsOnMo
 use Rattle.tree_nodes.specs.declared.node.Node.{Node}
 use Rattle.tree_nodes.proofs.SpendingLemmas.{frame_kind, spends_more, asks_of, asks_any}
 
-same_more : (a b : ℕ) → GrowsTo a ≡ GrowsTo b → a ≡ b
-same_more a b is = cc
-
-stays_grows : (more : ℕ) → Stays ≡ GrowsTo more → ⊥
-stays_grows more is = cc
-
 -- A refused block reports the refusals by which the source's count rose.
 pub told : (old new : View) (size align k : ℕ) → PlacesBlock old new size align (Refused k) → IsCounted k old new
 told old new size align k places =
@@ -159,33 +153,31 @@ module _ (paid : Paid) (old new : View) (v w : Vec Node) (list : List Node) (one
   costs Overflows is result grows = absurd (never result is grows)
 
   -- the list that is asked for where there is no room
-  becomes_longer : (g : Growth) → growth ≡ g → (more : ℕ) → g ≡ GrowsTo more → LongerList v.raw.len v.raw.cap n (more * 88) 8
-  becomes_longer g is more grown = by (cases_lt v.raw.cap (v.raw.len + n))
+  becomes_longer : (more : ℕ) → growth ≡ GrowsTo more → LongerList v.raw.len v.raw.cap n (more * 88) 8
+  becomes_longer more is = by (cases_lt v.raw.cap (v.raw.len + n))
     where
       by : (v.raw.cap < v.raw.len + n) ⊎ (v.raw.len + n ≤ v.raw.cap) → LongerList v.raw.len v.raw.cap n (more * 88) 8
       by (inl full) =
-          let same = sym grown ∙ sym is ∙ full_grows paid v.raw.len v.raw.cap n few full in
-          (omega (arith, full), (ap (λ n. n * 88) (same_more more (max (2 * v.raw.cap) (v.raw.len + n)) same), refl))
-      by (inr room) = absurd (stays_grows more (sym (paid.stays 88 v.raw.cap (v.raw.len + n) _ room) ∙ is ∙ grown))
+          let grown = full_grows paid v.raw.len v.raw.cap n few full in
+          let same : more ≡ max (2 * v.raw.cap) (v.raw.len + n) = cc (is, grown) in
+          (omega (arith, full), (ap (λ n. n * 88) same, refl))
+      by (inr room) = let none = paid.stays 88 v.raw.cap (v.raw.len + n) (amortised 88 v.raw.cap (v.raw.len + n)) room in absurd (cc (is, none))
 
-  denied : (g : Growth) (k : ℕ) → growth ≡ g → Pushes (Err (AllocErr k)) → IsDenied (LongerList v.raw.len v.raw.cap n) new
+  denied : (g : Growth) (k : ℕ) → growth ≡ g → Pushes (Err (AllocErr k))
+      → IsDenied (LongerList v.raw.len v.raw.cap n) new × IsCounted k old new
   denied Stays k is grows = absurd (rw is at grows.made).0
-  denied (GrowsTo more) k is grows = record {
-    size = more * 88;
-    align = 8;
-    asked = becomes_longer (GrowsTo more) is more refl;
-    none = refused_place old new (more * 88) 8 k (layout more is)
-        (room_refused_as old new v.raw.block 88 8 v.raw.cap (λ (x : Unit {0}). w.raw.block) more one held.place (layout more is)
-        (AllocErr k) grows.err.1 (rw is at grows.made));
-  }
+  denied (GrowsTo more) k is grows =
+      let refused = room_refused_as old new v.raw.block 88 8 v.raw.cap (λ (x : Unit {0}). w.raw.block) more one held.place (layout more is)
+      (AllocErr k) grows.err.1 (rw is at grows.made) in (
+        record {
+          size = more * 88;
+          align = 8;
+          asked = becomes_longer more is;
+          none = refused_place old new (more * 88) 8 k (layout more is) refused;
+        },
+        told old new (more * 88) 8 k refused,
+      )
   denied Overflows k is grows = absurd (never (Err (AllocErr k)) is grows)
-
-  counts : (g : Growth) (k : ℕ) → growth ≡ g → Pushes (Err (AllocErr k)) → IsCounted k old new
-  counts Stays k is grows = absurd (rw is at grows.made).0
-  counts (GrowsTo more) k is grows = told old new (more * 88) 8 k
-      (room_refused_as old new v.raw.block 88 8 v.raw.cap (λ (x : Unit {0}). w.raw.block) more one held.place (layout more is)
-      (AllocErr k) grows.err.1 (rw is at grows.made))
-  counts Overflows k is grows = absurd (never (Err (AllocErr k)) is grows)
 
   pub node_spends : (result : Result (Unit {0}) AllocError) → Grows node_item old new v growth list w result
       → Spends (LongerList v.raw.len v.raw.cap n) (359 * n) credit later old new (error_of result)
@@ -204,10 +196,10 @@ module _ (paid : Paid) (old new : View) (v w : Vec Node) (list : List Node) (one
       stops (Ok tt) grows cost = tt
       stops (Err (AllocErr k)) grows cost = (
         record {
-          counted = counts growth k refl grows;
+          counted = (denied growth k refl grows).1;
           starved = λ growing. far (cost.starved growing k refl).cause;
           full = λ still. cost.full still k refl;
-          denied = denied growth k refl grows;
+          denied = (denied growth k refl grows).0;
         },
         unchanged grows.err.1,
       )

@@ -5,8 +5,19 @@ use Rattle.tree_nodes.specs.Layouts.{IsDoubled}
 use Rattle.tree_nodes.specs.Subtrees.{IsRowBuilt}
 use Rattle.tree_nodes.specs.TreesAt.{node_item}
 use Rattle.tree_nodes.proofs.RowLemmas.{rows_more}
-use Rattle.tree_nodes.proofs.NodeCostLemmas.{node_spends, cap_doubled, pushed_length}
+use Rattle.tree_nodes.proofs.NodeCostLemmas.{Paid, node_spends, cap_doubled, pushed_length}
+use Rattle.tree_nodes.proofs.build.longer.Given.{Over}
 use Rattle.tree_nodes.proofs.build.longer.Goals as goal
+
+paid : (g : Over) (c : goal.In-Ok g) → Paid
+paid g c = record {
+  keeps = c.growth_costs.ensures.keeps;
+  asks = c.growth_costs.ensures.asks;
+  fits = c.vector_costs.ensures.fits;
+  stays = c.growth_rule.ensures.stays;
+  doubles = c.growth_rule.ensures.doubles;
+  grows = c.growth_rule.ensures.grows;
+}
 
 pub returns-in-Ok-clause-row : goal.returns-in-Ok-clause-row
 returns-in-Ok-clause-row g c = λ ts old read.
@@ -18,15 +29,7 @@ pub returns-in-Ok-clause-spends : goal.returns-in-Ok-clause-spends
 returns-in-Ok-clause-spends g c =
     let v = c.args.list in
     let m = c.args.a.now.memory in
-    node_spends (record {
-      keeps = c.growth_costs.ensures.keeps;
-      asks = c.growth_costs.ensures.asks;
-      fits = c.vector_costs.ensures.fits;
-      stays = c.growth_rule.ensures.stays;
-      doubles = c.growth_rule.ensures.doubles;
-      grows = c.growth_rule.ensures.grows;
-    })
-    c.args.a.now c.extend_from_slice.new.a v c.extend_from_slice.new.self _ c.known.ensures.state c.requires.held _ c.requires.some
+    node_spends (paid g c) c.args.a.now c.extend_from_slice.new.a v c.extend_from_slice.new.self _ c.known.ensures.state c.requires.held _ c.requires.some
     (omega (arith, c.requires.few))
     (pushed_length (vec_list node_item m v) c.args.nodes.now v.raw.len (length-elements 88 node_item.decoded v.raw.len _))
     (Ok c.in-Ok.field-0) c.in-Ok.ensures
@@ -41,15 +44,7 @@ returns-in-Ok-clause-len g c =
 pub returns-in-Ok-clause-cap : goal.returns-in-Ok-clause-cap
 returns-in-Ok-clause-cap g c = λ power many doubled.
     let v = c.args.list in
-    subst (IsDoubled _) (sym c.in-Ok.ensures.cap) (cap_doubled (record {
-      keeps = c.growth_costs.ensures.keeps;
-      asks = c.growth_costs.ensures.asks;
-      fits = c.vector_costs.ensures.fits;
-      stays = c.growth_rule.ensures.stays;
-      doubles = c.growth_rule.ensures.doubles;
-      grows = c.growth_rule.ensures.grows;
-    })
-    v.raw.len v.raw.cap _ (omega (arith, c.requires.few)) power many c.requires.held.within doubled)
+    subst (IsDoubled _) (sym c.in-Ok.ensures.cap) (cap_doubled (paid g c) v.raw.len v.raw.cap _ (omega (arith, c.requires.few)) power many c.requires.held.within doubled)
 
 pub returns-in-Err-clause-spends : goal.returns-in-Err-clause-spends
 returns-in-Err-clause-spends g c =

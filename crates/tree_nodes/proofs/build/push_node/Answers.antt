@@ -5,8 +5,19 @@ use Rattle.arena_items.proofs.Layers.{length-elements}
 use Rattle.arena_vec.specs.Vecs.{vec_list}
 use Rattle.tree_nodes.specs.Layouts.{IsDoubled}
 use Rattle.tree_nodes.specs.TreesAt.{node_item}
-use Rattle.tree_nodes.proofs.NodeCostLemmas.{node_spends, cap_doubled, pushed_length}
+use Rattle.tree_nodes.proofs.NodeCostLemmas.{Paid, node_spends, cap_doubled, pushed_length}
+use Rattle.tree_nodes.proofs.build.push_node.Given.{Over}
 use Rattle.tree_nodes.proofs.build.push_node.Goals as goal
+
+paid : (g : Over) (c : goal.After-push g) → Paid
+paid g c = record {
+  keeps = c.growth_costs.ensures.keeps;
+  asks = c.growth_costs.ensures.asks;
+  fits = c.vector_costs.ensures.fits;
+  stays = c.growth_rule.ensures.stays;
+  doubles = c.growth_rule.ensures.doubles;
+  grows = c.growth_rule.ensures.grows;
+}
 
 pub returns-clause-row : goal.returns-clause-row
 returns-clause-row g c = λ ts t old one built placed.
@@ -15,15 +26,7 @@ returns-clause-row g c = λ ts t old one built placed.
 
 pub returns-clause-spends : goal.returns-clause-spends
 returns-clause-spends g c =
-    node_spends (record {
-      keeps = c.growth_costs.ensures.keeps;
-      asks = c.growth_costs.ensures.asks;
-      fits = c.vector_costs.ensures.fits;
-      stays = c.growth_rule.ensures.stays;
-      doubles = c.growth_rule.ensures.doubles;
-      grows = c.growth_rule.ensures.grows;
-    })
-    c.args.a.now c.push.new.a c.args.list.now c.push.new.list _ c.known.ensures.state c.requires.held 1 (omega arith) (omega (arith, c.requires.few))
+    node_spends (paid g c) c.args.a.now c.push.new.a c.args.list.now c.push.new.list _ c.known.ensures.state c.requires.held 1 (omega arith) (omega (arith, c.requires.few))
     (pushed_length (vec_list node_item c.args.a.now.memory c.args.list.now) (c.args.node.now ∷ []) c.args.list.now.raw.len
     (length-elements 88 node_item.decoded c.args.list.now.raw.len _))
     c.push.result c.push.ensures
@@ -35,19 +38,5 @@ returns-clause-len g c =
 
 pub returns-clause-cap : goal.returns-clause-cap
 returns-clause-cap g c = λ doubled.
-    let after = cap_doubled (record {
-      keeps = c.growth_costs.ensures.keeps;
-      asks = c.growth_costs.ensures.asks;
-      fits = c.vector_costs.ensures.fits;
-      stays = c.growth_rule.ensures.stays;
-      doubles = c.growth_rule.ensures.doubles;
-      grows = c.growth_rule.ensures.grows;
-    })
-    c.args.list.now.raw.len c.args.list.now.raw.cap 1 (omega (arith, c.requires.few)) 0 refl c.requires.held.within doubled in
+    let after = cap_doubled (paid g c) c.args.list.now.raw.len c.args.list.now.raw.cap 1 (omega (arith, c.requires.few)) 0 refl c.requires.held.within doubled in
     on_ok_weaker c.push.result (λ is. subst (IsDoubled 1) (sym is) after) c.push.ensures.cap
-
-pub returns-clause-err : goal.returns-clause-err
-returns-clause-err g c = c.push.ensures.err
-
-pub returns-clause-frame : goal.returns-clause-frame
-returns-clause-frame g c = c.push.ensures.frame

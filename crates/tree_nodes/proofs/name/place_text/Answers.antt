@@ -1,4 +1,4 @@
-use Rattle.std.proofs.Common.{◌≡◌, ℕ, ◌+◌, ◌-◌, ◌^◌, ◌≤◌, length, true, false, refl, sym, ◌∙◌, arith}
+use Rattle.std.proofs.Common.{◌≡◌, ℕ, ◌+◌, ◌-◌, ◌^◌, ◌≤◌, length, true, refl, sym, ◌∙◌, arith}
 use Rattle.std.specs.Prelude.{nat_le}
 use Rattle.std.proofs.lemmas.Bool.Decides.{nat_tests}
 use Rattle.arena_rules.specs.Rounding.{up, is_layout, is_power, is_power_among}
@@ -9,9 +9,6 @@ use Rattle.arena_items.proofs.Layers.{wrote_same}
 use Rattle.tree_nodes.proofs.SpendingLemmas.{spends_more, asks_any, asks_of, err_spends}
 use Rattle.tree_nodes.proofs.BlockCostLemmas.{spends_same}
 use Rattle.tree_nodes.proofs.name.place_text.Goals as goal
-
-false_true : false ≡ true → ⊥
-false_true e = cc
 
 power : is_power 1 ≡ true
 unfolding is_power_among
@@ -24,7 +21,10 @@ short_layout n few =
     rw (power, fits) refl
 
 pub unreachable-requires : goal.unreachable-requires
-unreachable-requires g c = false_true (c.in_default.ensures.valid ∙ short_layout (length c.args.bytes.now) c.requires)
+unreachable-requires g c =
+    let layout = short_layout (length c.args.bytes.now) c.requires in
+    let none = c.in_default.ensures.valid in
+    cc (layout, none)
 
 pub place_block-requires : goal.place_block-requires
 place_block-requires g c =
