@@ -134,7 +134,7 @@ turn_of {trees} {old} {m} {v} {k = k} j is now get =
       left = left;
       get = get;
       place = place;
-      on = on_beside left.row.writes (record { stands = place.stands; lists = refl; texts = refl }) place.split.beside_first;
+      on = on_beside {t = place.tree} left.row.writes (record { stands = place.stands; lists = refl; texts = refl }) place.split.beside_first;
     }
   where
     front_get : (i : ℕ) (ns : List Node) → slice_get (take (suc i) ns) i ≡ slice_get ns i
@@ -174,7 +174,7 @@ row_next {trees} {old} {m} {two} {new} {v} {i = i} {k = k} {l = l} t held f step
       row = rw (p.tree_is, p.node_is, rest) (first_folded p.split t.left.row g set);
       lean = λ lean.
           let was = lean_first old k (drop (suc i) ns) (subst (AreLean old) p.node_is (lean_behind old i ns lean)) in
-          let now = on_lean_beside t.left.row.writes (record { stands = p.stands; lists = refl; texts = refl }) p.split.beside_first was in
+          let now = on_lean_beside {t = p.tree} t.left.row.writes (record { stands = p.stands; lists = refl; texts = refl }) p.split.beside_first was in
           subst (AreLean new) (sym rest) (first_lean p.split t.left.row g set (step now) (t.left.lean lean));
     }
 

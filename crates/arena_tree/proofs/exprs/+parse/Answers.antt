@@ -23,42 +23,20 @@ factor-returns-in-Some-Number-clause-tree g t c =
       placed = number_placed _ _ _ c.number.ensures.node;
     }
 
-pub factor-returns-in_ok-name_node-in-Some-Word-clause-tree : goal.factor-returns-in_ok-name_node-in-Some-Word-clause-tree
-factor-returns-in_ok-name_node-in-Some-Word-clause-tree g t c =
-    let word = rw c.in-Some-Word.field-0-is at c.in-Some-Word.ensures.some in
-    record {
-      part = AName (slice_range c.args.src.now c.in-Some-Word.begin c.in-Some-Word.end);
-      read = reads_leaf c.requires.nest word.0 refl (λ opens. refl);
-      stopped = tt;
-      placed = c.in_ok-name_node-in-Some-Word.ensures.tree;
-    }
-
-pub minus-returns-clause-tree : goal.minus-returns-clause-tree
-minus-returns-clause-tree g t c =
-    let k = c.in_ok-end.ensures.tree in
-    record {
-      part = Negated k.part;
-      read = reads_then (opens_sign c.requires.nest c.if-deep-eq-MOST_OPEN.false c.requires.start) (reads_in in_sign k.read);
-      stopped = tt;
-      placed = c.in_ok-negate.ensures.tree (factor_tree k.part) _ k.placed;
-    }
-
-pub paren-returns-clause-tree : goal.paren-returns-clause-tree
-paren-returns-clause-tree g t c =
-    let k = c.in_ok-end.ensures.tree in
-    record {
-      part = InParens k.part;
-      read = reads_then (opens_paren c.requires.nest c.if-deep-eq-MOST_OPEN.false c.requires.start)
-          (reads_then (reads_in in_paren k.read) (closes_paren c.requires.nest c.in-Some.ensures.some));
-      stopped = tt;
-      placed = k.placed;
-    }
-
-pub factor-returns-in_ok-name_node-in-Some-Word-clause-spends : goal.factor-returns-in_ok-name_node-in-Some-Word-clause-spends
-factor-returns-in_ok-name_node-in-Some-Word-clause-spends g t c =
+pub factor-returns-in_ok-name_node-in-Some-Word : goal.factor-returns-in_ok-name_node-in-Some-Word
+factor-returns-in_ok-name_node-in-Some-Word g t c =
     let word = rw c.in-Some-Word.field-0-is at c.in-Some-Word.ensures.some in
     let few = range_length c.args.src.now c.in-Some-Word.begin c.in-Some-Word.end in
-    asks_any (spends_more c.in_ok-name_node-in-Some-Word.ensures.spends (omega arith) (omega arith))
+    record {
+      tree = record {
+        part = AName (slice_range c.args.src.now c.in-Some-Word.begin c.in-Some-Word.end);
+        read = reads_leaf c.requires.nest word.0 refl (λ opens. refl);
+        stopped = tt;
+        placed = c.in_ok-name_node-in-Some-Word.ensures.tree;
+      };
+      spends = asks_any (spends_more c.in_ok-name_node-in-Some-Word.ensures.spends (omega arith) (omega arith));
+      text = tt;
+    }
 
 pub factor-returns-in_err-name_node-in-Some-Word-clause-spends : goal.factor-returns-in_err-name_node-in-Some-Word-clause-spends
 factor-returns-in_err-name_node-in-Some-Word-clause-spends g t c =
@@ -67,11 +45,21 @@ factor-returns-in_err-name_node-in-Some-Word-clause-spends g t c =
     err_up_to _ _ _ _ c.from_residual.ensures (arena_stops _ (asks_of (asked_name word.0)
     (spends_more c.in_err-name_node-in-Some-Word.ensures.spends (omega arith) (omega arith))))
 
-pub minus-returns-clause-spends : goal.minus-returns-clause-spends
-minus-returns-clause-spends g t c =
+pub minus-returns : goal.minus-returns
+minus-returns g t c =
     let minus = c.requires.start in
     let k = c.in_ok-end.ensures in
-    asks_any (spends_then k.spends c.in_ok-negate.ensures.spends (frees k.tree.placed.frame) (omega arith) (omega arith) (omega arith))
+    record {
+      tree = record {
+        part = Negated k.tree.part;
+        read = reads_then (opens_sign c.requires.nest c.if-deep-eq-MOST_OPEN.false minus) (reads_in in_sign k.tree.read);
+        stopped = tt;
+        placed = c.in_ok-negate.ensures.tree (factor_tree k.tree.part) _ k.tree.placed;
+      };
+      spends = asks_any (spends_then k.spends c.in_ok-negate.ensures.spends (frees k.tree.placed.frame) (omega arith) (omega arith)
+          (omega arith));
+      text = tt;
+    }
 
 pub minus-returns-in_err-end-clause-spends : goal.minus-returns-in_err-end-clause-spends
 minus-returns-in_err-end-clause-spends g t c =
@@ -86,11 +74,22 @@ minus-returns-in_err-negate-clause-spends g t c =
     err_up_to _ _ _ _ c.from_residual-in_err-negate.ensures (arena_stops _ (asks_of (asked_list ANegated sign 1 (inl refl))
     (spends_then k.spends c.in_err-negate.ensures.spends (frees k.tree.placed.frame) (omega arith) (omega arith) (omega arith))))
 
-pub paren-returns-clause-spends : goal.paren-returns-clause-spends
-paren-returns-clause-spends g t c =
+pub paren-returns : goal.paren-returns
+paren-returns g t c =
     let paren = c.requires.start in
+    let k = c.in_ok-end.ensures in
     let close = c.in-Some.ensures.some in
-    spends_more c.in_ok-end.ensures.spends (omega (arith, close.later)) (omega (arith, close.later))
+    record {
+      tree = record {
+        part = InParens k.tree.part;
+        read = reads_then (opens_paren c.requires.nest c.if-deep-eq-MOST_OPEN.false paren)
+            (reads_then (reads_in in_paren k.tree.read) (closes_paren c.requires.nest close));
+        stopped = tt;
+        placed = k.tree.placed;
+      };
+      spends = spends_more k.spends (omega (arith, close.later)) (omega (arith, close.later));
+      text = tt;
+    }
 
 pub paren-returns-in_err-end-clause-spends : goal.paren-returns-in_err-end-clause-spends
 paren-returns-in_err-end-clause-spends g t c =
@@ -113,17 +112,15 @@ paren-returns-in_err-end-clause-text g t c =
     let paren = opens_paren c.requires.nest c.if-deep-eq-MOST_OPEN.false c.requires.start in
     err_text ℕ _ _ _ _ c.from_residual.ensures (λ no. refused_then paren (λ o. no (in_paren o))) c.in_err-end.ensures.text
 
-pub paren-returns-in_default-clause-text : goal.paren-returns-in_default-clause-text
-paren-returns-in_default-clause-text g t c =
-    let k = c.in_ok-end.ensures.tree in
-    refused_then (opens_paren c.requires.nest c.if-deep-eq-MOST_OPEN.false c.requires.start)
-    (refused_then (reads_in in_paren k.read) (λ o. c.in_default.ensures.none o.opens))
-
-pub paren-returns-in_default-clause-spends : goal.paren-returns-in_default-clause-spends
-paren-returns-in_default-clause-spends g t c =
-    let paren = c.requires.start in
+pub paren-returns-in_default : goal.paren-returns-in_default
+paren-returns-in_default g t c =
     let k = c.in_ok-end.ensures in
-    text_stops k.spends k.tree.placed.frame (omega (arith, paren.later, k.tree.within))
+    record {
+      tree = tt;
+      spends = text_stops k.spends k.tree.placed.frame (omega (arith, c.requires.start.later, k.tree.within));
+      text = refused_then (opens_paren c.requires.nest c.if-deep-eq-MOST_OPEN.false c.requires.start)
+          (refused_then (reads_in in_paren k.tree.read) (λ o. c.in_default.ensures.none o.opens));
+    }
 
 pub term-returns-in_err-end-clause-text : goal.term-returns-in_err-end-clause-text
 term-returns-in_err-end-clause-text g t c =
@@ -188,25 +185,24 @@ factors-returns-in_err-all-clause-spends g t c = λ from old first.
     i.held.within b.more (omega (arith, b.more, full, i.few, i.nodes)) (omega (arith, i.few)))
     (put_all b c.in_err-all.ensures.spends (omega (arith, k.tree.within)) (omega arith))))
 
-pub factors-returns-in_default-clause-tree : goal.factors-returns-in_default-clause-tree
-factors-returns-in_default-clause-tree g t c = λ from old first.
+pub factors-returns-in_default : goal.factors-returns-in_default
+factors-returns-in_default g t c =
     let i = c.loop-stop.invariant in
     let k = c.in_ok-stop.ensures in
     let node = c.with_kids.ensures in
-    let b = factor_more _ c.loop-stop.count i.few.0 i.nodes c.requires.nest k.spends (i.read from old first) k.tree in
     record {
-      part = Times (i.read from old first).part k.tree.part;
-      read = b.read;
-      stopped = c.in_default.ensures.none;
-      placed = prod_placed _ _ _ _ _ (exprs_built _ _ _ _ (c.in_ok-all.ensures.row _ _ b.row)) node.kind node.kids node.rest;
+      tree = λ from old first.
+          let b = factor_more _ c.loop-stop.count i.few.0 i.nodes c.requires.nest k.spends (i.read from old first) k.tree in
+          record {
+            part = Times (i.read from old first).part k.tree.part;
+            read = b.read;
+            stopped = c.in_default.ensures.none;
+            placed = prod_placed _ _ _ _ _ (exprs_built _ _ _ _ (c.in_ok-all.ensures.row _ _ b.row)) node.kind node.kids node.rest;
+          };
+      spends = λ from old first. asks_any (put_all (factor_more _ c.loop-stop.count i.few.0 i.nodes c.requires.nest k.spends
+          (i.read from old first) k.tree) c.in_ok-all.ensures.spends (omega arith) (omega arith));
+      text = λ from old first. tt;
     }
-
-pub factors-returns-in_default-clause-spends : goal.factors-returns-in_default-clause-spends
-factors-returns-in_default-clause-spends g t c = λ from old first.
-    let i = c.loop-stop.invariant in
-    let k = c.in_ok-stop.ensures in
-    asks_any (put_all (factor_more _ c.loop-stop.count i.few.0 i.nodes c.requires.nest k.spends
-    (i.read from old first) k.tree) c.in_ok-all.ensures.spends (omega arith) (omega arith))
 
 pub factors-returns-in_err-list-clause-spends : goal.factors-returns-in_err-list-clause-spends
 factors-returns-in_err-list-clause-spends g t c = λ from old first.
@@ -336,28 +332,27 @@ terms-returns-in_err-all-clause-spends g t c = λ from old first.
     i.doubled i.held.within b.more (omega (arith, b.more, full, i.few, i.nodes)) (omega (arith, i.few)))
     (put_all b c.in_err-all.ensures.spends (omega (arith, k.tree.within)) (omega arith))))
 
-pub terms-returns-in_default-clause-tree : goal.terms-returns-in_default-clause-tree
-terms-returns-in_default-clause-tree g t c = λ from old first.
+pub terms-returns-in_default : goal.terms-returns-in_default
+terms-returns-in_default g t c =
     let i = c.loop-stop.invariant in
-    let r = i.read from old first in
     let k = c.in_ok-stop.ensures in
     let node = c.with_kids.ensures in
-    let b = term_more _ c.loop-stop.count i.few.0 i.nodes c.requires.nest k.spends c.loop-stop.minus _ r k.tree
-    c.in_ok-sign.ensures.spends c.in_ok-sign.ensures.tree in
     record {
-      part = joined c.loop-stop.minus r.part k.tree.part;
-      read = b.read;
-      stopped = (k.tree.stopped, c.in_default.ensures.none);
-      placed = terms_placed c.loop-stop.minus r.part k.tree.part (c.in_ok-all.ensures.row _ _ b.row) node.kind node.kids node.rest;
+      tree = λ from old first.
+          let r = i.read from old first in
+          let b = term_more _ c.loop-stop.count i.few.0 i.nodes c.requires.nest k.spends c.loop-stop.minus _ r k.tree
+          c.in_ok-sign.ensures.spends c.in_ok-sign.ensures.tree in
+          record {
+            part = joined c.loop-stop.minus r.part k.tree.part;
+            read = b.read;
+            stopped = (k.tree.stopped, c.in_default.ensures.none);
+            placed = terms_placed c.loop-stop.minus r.part k.tree.part (c.in_ok-all.ensures.row _ _ b.row) node.kind node.kids node.rest;
+          };
+      spends = λ from old first. asks_any (put_all (term_more _ c.loop-stop.count i.few.0 i.nodes c.requires.nest k.spends c.loop-stop.minus _
+          (i.read from old first) k.tree c.in_ok-sign.ensures.spends c.in_ok-sign.ensures.tree) c.in_ok-all.ensures.spends (omega arith)
+          (omega arith));
+      text = λ from old first. tt;
     }
-
-pub terms-returns-in_default-clause-spends : goal.terms-returns-in_default-clause-spends
-terms-returns-in_default-clause-spends g t c = λ from old first.
-    let i = c.loop-stop.invariant in
-    let k = c.in_ok-stop.ensures in
-    asks_any (put_all (term_more _ c.loop-stop.count i.few.0 i.nodes c.requires.nest k.spends c.loop-stop.minus _
-    (i.read from old first) k.tree c.in_ok-sign.ensures.spends c.in_ok-sign.ensures.tree)
-    c.in_ok-all.ensures.spends (omega arith) (omega arith))
 
 pub terms-returns-in_err-list-clause-spends : goal.terms-returns-in_err-list-clause-spends
 terms-returns-in_err-list-clause-spends g t c = λ from old first.

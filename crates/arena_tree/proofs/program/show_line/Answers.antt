@@ -10,35 +10,41 @@ use Rattle.tree_nodes.proofs.RowLemmas.{exprs_built}
 use Rattle.arena_tree.proofs.PartLemmas.{in_braces, reads_value}
 use Rattle.arena_tree.proofs.program.show_line.Goals as goal
 
-pub returns-clause-tree : goal.returns-clause-tree
-returns-clause-tree g c =
-    let e = c.in_ok-stop.ensures.tree in
-    let r = reads_value c.requires.nest e.read c.in-Some.ensures.some in
-    let node = c.in_ok-wrap.ensures.tree _ _ e.placed in
+pub returns : goal.returns
+returns g c =
+    let e = c.in_ok-stop.ensures in
+    let end = c.in-Some.ensures.some in
+    let r = reads_value c.requires.nest e.tree.read end in
+    let node = c.in_ok-wrap.ensures.tree _ _ e.tree.placed in
     record {
-      part = ShowLine e.part;
-      long = omega (arith, e.later, c.in-Some.ensures.some.later);
-      read = record {
-        tokens_are = r.tokens_are;
-        same = λ u. c.requires.starts c.args.deep ∙ r.same u;
-        later = r.later;
-        within = r.within;
+      tree = record {
+        part = ShowLine e.tree.part;
+        long = omega (arith, e.tree.later, end.later);
+        read = record {
+          tokens_are = r.tokens_are;
+          same = λ u. c.requires.starts c.args.deep ∙ r.same u;
+          later = r.later;
+          within = r.within;
+        };
+        placed = show_placed _ _ _ _ _ (exprs_built (And (terms_tree e.tree.part) NoExprs) _ _ _ node.1) node.0 refl (node.2, node.3);
       };
-      placed = show_placed _ _ _ _ _ (exprs_built (And (terms_tree e.part) NoExprs) _ _ _ node.1) node.0 refl (node.2, node.3);
+      spends = asks_any (spends_then e.spends c.in_ok-wrap.ensures.spends (frees e.tree.placed.frame) (omega (arith, end.later))
+          (omega (arith, end.later)) (omega (arith, end.later)));
+      text = tt;
     }
 
 pub returns-in_err-stop-clause-text : goal.returns-in_err-stop-clause-text
 returns-in_err-stop-clause-text g c = err_text ℕ _ _ _ _ c.from_residual.ensures (λ no p. no (in_braces c.args.deep) (sym (c.requires.starts c.args.deep) ∙ p))
     c.in_err-stop.ensures.text
 
-pub returns-in_default-clause-text : goal.returns-in_default-clause-text
-returns-in_default-clause-text g c p =
-    let e = c.in_ok-stop.ensures.tree in
-    c.in_default.ensures.none c.args.deep (sym (c.requires.starts c.args.deep ∙ e.same (in_braces c.args.deep)) ∙ p)
-
-pub returns-in_default-clause-spends : goal.returns-in_default-clause-spends
-returns-in_default-clause-spends g c =
-    let e = c.in_ok-stop.ensures in text_stops e.spends e.tree.placed.frame (omega (arith, e.tree.within))
+pub returns-in_default : goal.returns-in_default
+returns-in_default g c =
+    let e = c.in_ok-stop.ensures in
+    record {
+      tree = tt;
+      spends = text_stops e.spends e.tree.placed.frame (omega (arith, e.tree.within));
+      text = λ p. c.in_default.ensures.none c.args.deep (sym (c.requires.starts c.args.deep ∙ e.tree.same (in_braces c.args.deep)) ∙ p);
+    }
 
 pub returns-in_err-wrap-clause-spends : goal.returns-in_err-wrap-clause-spends
 returns-in_err-wrap-clause-spends g c =
@@ -47,10 +53,3 @@ returns-in_err-wrap-clause-spends g c =
     err_up_to _ _ _ _ c.from_residual-in_err-wrap.ensures
     (arena_stops _ (asks_of (asked_list (ALine Empty (ShowLine e.tree.part)) line 1 (inl refl))
     (spends_then e.spends c.in_err-wrap.ensures.spends (frees e.tree.placed.frame) (omega arith) (omega arith) (omega arith))))
-
-pub returns-clause-spends : goal.returns-clause-spends
-returns-clause-spends g c =
-    let e = c.in_ok-stop.ensures in
-    let end = c.in-Some.ensures.some in
-    asks_any (spends_then e.spends c.in_ok-wrap.ensures.spends (frees e.tree.placed.frame) (omega (arith, end.later))
-    (omega (arith, end.later)) (omega (arith, end.later)))
