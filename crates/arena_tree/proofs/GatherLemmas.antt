@@ -17,7 +17,9 @@ use Rattle.arena_tree.specs.TreesAt.{IsPlaced}
 use Rattle.arena_tree.specs.Subtrees.{Subtree, OfExpr, IsTreePlaced, IsRowBuilt, IsRowRead, expr_row}
 use Rattle.arena_tree.specs.Parts.{IsFactor, IsTerm, Reads, terms_at, terms_behind, signed_tree}
 use Rattle.arena_tree.specs.Layouts.{AskedFor}
-use Rattle.arena_tree.specs.Spending.{Spends, SpendsUpTo, IsFirst, AreRead, FactorsRead, TermsRead, most_for, node_cost, credit}
+use Rattle.arena_tree.specs.Spending.{Spends, Stopped, SpendsUpTo, IsFirst, AreRead, FactorsRead, TermsRead, most_for, node_cost, credit}
+use Rattle.arena_tree.specs.declared.stop.Stop.{Stop}
+use Rattle.arena_tree.proofs.PartCostLemmas.{stops_then}
 use Rattle.arena_tree.proofs.PartLemmas.{reads_then, reads_plain, reads_terms, terms_more, joined}
 
 -- the first child, behind which an operator comes
@@ -136,10 +138,15 @@ module _ {P : Type 0} {trees : P → Exprs} {spelled : P → List Token → List
     }
 
     -- there is no room for more
-    pub all_behind : {n : ℕ} → AreBehind trees spelled part deep src from end old now list front (take n nodes) → length nodes ≤ n
+    pub whole : {n : ℕ} → AreBehind trees spelled part deep src from end old now list front (take n nodes) → length nodes ≡ n
         → AreBehind trees spelled part deep src from end old now list front nodes
-    all_behind {n} b whole =
-        subst (AreBehind trees spelled part deep src from end old now list front) (take_all n nodes whole) b
+    whole {n} b all = subst (AreBehind trees spelled part deep src from end old now list front) (take_all n nodes (omega (arith, all))) b
+
+  -- the next one wasn't read whole
+  pub stop_behind : {operator : Token} {here : ℕ} {nodes : List Node} {new : View} (e : Stop)
+      → AreRead trees spelled operator deep src from here old now list nodes → Stopped here src now new e → Stopped from src old new e
+  stop_behind e r stopped =
+      stops_then e r.spends stopped (read_frame r.row) (omega (arith, r.within)) (omega (arith, r.within, r.later))
 
   -- their nodes went into a list
   pub read_into : {operator : Token} {next : ℕ} {nodes : List Node} {layouts : Layouts} {new : View} {longer : Vec Node}

@@ -8,9 +8,9 @@ use Rattle.tree_nodes.proofs.BuildLemmas.{prod_placed, number_placed}
 use Rattle.tree_nodes.proofs.RowLemmas.{row_none, read_none, read_more, read_frame, list_kept, exprs_built}
 use Rattle.tree_nodes.proofs.SpendingLemmas.{spends_then, spends_more, asks_of, asks_any, frees, frees_then, range_length}
 use Rattle.arena_tree.proofs.AskedLemmas.{asked_name, asked_list, asked_all, asked_four}
-use Rattle.arena_tree.proofs.PartCostLemmas.{stops_then, stops_more, arena_stops, text_stops, err_up_to, err_text}
+use Rattle.arena_tree.proofs.PartCostLemmas.{stops_more, arena_stops, text_stops, err_up_to, err_text}
 use Rattle.arena_tree.proofs.PartLemmas.{reads_then, reads_in, reads_leaf, reads_plain, reads_star, reads_sign, refused_then, in_paren, in_sign, unsigned, opens_paren, closes_paren, opens_sign, deep_paren, deep_sign, joined, terms_placed}
-use Rattle.arena_tree.proofs.GatherLemmas.{first_child, set_twice, kid_read, sign_placed, factor_more, term_more, put_all, read_on, all_behind, read_into}
+use Rattle.arena_tree.proofs.GatherLemmas.{first_child, set_twice, kid_read, sign_placed, factor_more, term_more, stop_behind, put_all, read_on, whole, read_into}
 use Rattle.arena_tree.proofs.exprs.+parse.Goals as goal
 
 pub factor-returns-in-Some-Number-clause-tree : goal.factor-returns-in-Some-Number-clause-tree
@@ -63,14 +63,12 @@ minus-returns g t c =
 
 pub minus-returns-in_err-end-clause-spends : goal.minus-returns-in_err-end-clause-spends
 minus-returns-in_err-end-clause-spends g t c =
-    let minus = c.requires.start in
-    err_up_to _ _ _ _ c.from_residual.ensures (stops_more _ c.in_err-end.ensures.spends (omega arith))
+    err_up_to _ _ _ _ c.from_residual.ensures (stops_more _ c.in_err-end.ensures.spends (omega (arith, c.requires.start.later)))
 
 pub minus-returns-in_err-negate-clause-spends : goal.minus-returns-in_err-negate-clause-spends
 minus-returns-in_err-negate-clause-spends g t c =
-    let minus = c.requires.start in
     let k = c.in_ok-end.ensures in
-    let sign = opens_sign c.requires.nest c.if-deep-eq-MOST_OPEN.false minus in
+    let sign = opens_sign c.requires.nest c.if-deep-eq-MOST_OPEN.false c.requires.start in
     err_up_to _ _ _ _ c.from_residual-in_err-negate.ensures (arena_stops _ (asks_of (asked_list ANegated sign 1 (inl refl))
     (spends_then k.spends c.in_err-negate.ensures.spends (frees k.tree.placed.frame) (omega arith) (omega arith) (omega arith))))
 
@@ -93,8 +91,7 @@ paren-returns g t c =
 
 pub paren-returns-in_err-end-clause-spends : goal.paren-returns-in_err-end-clause-spends
 paren-returns-in_err-end-clause-spends g t c =
-    let paren = c.requires.start in
-    err_up_to _ _ _ _ c.from_residual.ensures (stops_more _ c.in_err-end.ensures.spends (omega arith))
+    err_up_to _ _ _ _ c.from_residual.ensures (stops_more _ c.in_err-end.ensures.spends (omega (arith, c.requires.start.later)))
 
 pub minus-returns-then-deep-eq-MOST_OPEN-clause-text : goal.minus-returns-then-deep-eq-MOST_OPEN-clause-text
 minus-returns-then-deep-eq-MOST_OPEN-clause-text g t c = deep_sign c.requires.nest c.if-deep-eq-MOST_OPEN.true c.requires.start
@@ -165,9 +162,7 @@ factors-loop-stop-init g t c =
 
 pub factors-returns-in_err-stop-clause-spends : goal.factors-returns-in_err-stop-clause-spends
 factors-returns-in_err-stop-clause-spends g t c = λ from old first.
-    let r = c.loop-stop.invariant.read from old first in
-    err_up_to _ _ _ _ c.from_residual.ensures (stops_then _ r.spends c.in_err-stop.ensures.spends (read_frame r.row)
-    (omega (arith, r.within)) (omega (arith, r.within, r.later)))
+    err_up_to _ _ _ _ c.from_residual.ensures (stop_behind _ (c.loop-stop.invariant.read from old first) c.in_err-stop.ensures.spends)
 
 pub factors-returns-in_err-stop-clause-text : goal.factors-returns-in_err-stop-clause-text
 factors-returns-in_err-stop-clause-text g t c = λ from old first.
@@ -210,8 +205,7 @@ factors-returns-in_err-list-clause-spends g t c = λ from old first.
     let r = i.read from old first in
     let k = c.in_ok-stop.ensures in
     let four = length-set c.loop-stop.nodes c.loop-stop.count c.factor.new.node ∙ i.nodes in
-    let b = all_behind (factor_more _ c.loop-stop.count i.few.0 i.nodes c.requires.nest k.spends r k.tree)
-    (omega (arith, four, c.if-count-eq-FEW.true)) in
+    let b = whole (factor_more _ c.loop-stop.count i.few.0 i.nodes c.requires.nest k.spends r k.tree) (four ∙ sym c.if-count-eq-FEW.true) in
     err_up_to _ _ _ _ c.from_residual-in_err-list.ensures (arena_stops _ (asks_of (asked_four (AFactor (Times r.part k.tree.part))
     (reads_then b.read (reads_star c.requires.nest c.in-Some.ensures.some)) b.row i.doubled i.held.within four)
     (put_all b c.in_err-list.ensures.spends (omega (arith, k.tree.within)) (omega arith))))
@@ -232,7 +226,7 @@ factors-loop-stop-preserved-then-count-eq-FEW g t c =
           (put.cap 2 3 four refl (subst (λ many. IsDoubled many c.loop-stop.list.raw.cap) (sym four) i.doubled));
       read = λ from old first.
           let b = factor_more _ c.loop-stop.count i.few.0 i.nodes c.requires.nest k.spends (i.read from old first) k.tree in
-          read_into (read_on (all_behind b (omega (arith, four, c.if-count-eq-FEW.true))) (reads_star c.requires.nest op)) put.spends put.len
+          read_into (read_on (whole b (four ∙ sym c.if-count-eq-FEW.true)) (reads_star c.requires.nest op)) put.spends put.len
           (put.row _ _);
     }
 
@@ -302,9 +296,7 @@ terms-with_more-requires-then-count-eq-FEW-clause-held g t c =
 
 pub terms-returns-in_err-stop-clause-spends : goal.terms-returns-in_err-stop-clause-spends
 terms-returns-in_err-stop-clause-spends g t c = λ from old first.
-    let r = c.loop-stop.invariant.read from old first in
-    err_up_to _ _ _ _ c.from_residual.ensures (stops_then _ r.spends c.in_err-stop.ensures.spends (read_frame r.row)
-    (omega (arith, r.within)) (omega (arith, r.within, r.later)))
+    err_up_to _ _ _ _ c.from_residual.ensures (stop_behind _ (c.loop-stop.invariant.read from old first) c.in_err-stop.ensures.spends)
 
 pub terms-returns-in_err-stop-clause-text : goal.terms-returns-in_err-stop-clause-text
 terms-returns-in_err-stop-clause-text g t c = λ from old first.
@@ -360,9 +352,8 @@ terms-returns-in_err-list-clause-spends g t c = λ from old first.
     let r = i.read from old first in
     let k = c.in_ok-stop.ensures in
     let four = set_twice c.loop-stop.nodes c.loop-stop.count c.term.new.node c.sign.new.node i.nodes in
-    let b = all_behind (term_more _ c.loop-stop.count i.few.0 i.nodes c.requires.nest k.spends c.loop-stop.minus _
-    (i.read from old first) k.tree c.in_ok-sign.ensures.spends c.in_ok-sign.ensures.tree)
-    (omega (arith, four, c.if-count-eq-FEW.true)) in
+    let b = whole (term_more _ c.loop-stop.count i.few.0 i.nodes c.requires.nest k.spends c.loop-stop.minus _ r k.tree
+    c.in_ok-sign.ensures.spends c.in_ok-sign.ensures.tree) (four ∙ sym c.if-count-eq-FEW.true) in
     err_up_to _ _ _ _ c.from_residual-in_err-list.ensures (arena_stops _ (asks_of
     (asked_four (ATerm (joined c.loop-stop.minus r.part k.tree.part) c.in-Some.less)
     (reads_then b.read (reads_sign c.requires.nest c.in-Some.less c.in-Some.ensures.some)) b.row i.doubled i.held.within four)
@@ -382,10 +373,11 @@ terms-loop-stop-preserved-then-count-eq-FEW g t c =
       held = put.held;
       doubled = subst (λ many. IsDoubled many c.in_ok-list.list.raw.cap) four
           (put.cap 2 3 four refl (subst (λ many. IsDoubled many c.loop-stop.list.raw.cap) (sym four) i.doubled));
-      read = λ from old first. read_into (read_on (all_behind (term_more _ c.loop-stop.count i.few.0 i.nodes c.requires.nest k.spends c.loop-stop.minus _
-          (i.read from old first) k.tree c.in_ok-sign.ensures.spends c.in_ok-sign.ensures.tree)
-          (omega (arith, four, c.if-count-eq-FEW.true)))
-          (reads_sign c.requires.nest c.in-Some.less op)) put.spends put.len (put.row _ _);
+      read = λ from old first.
+          let b = term_more _ c.loop-stop.count i.few.0 i.nodes c.requires.nest k.spends c.loop-stop.minus _ (i.read from old first) k.tree
+          c.in_ok-sign.ensures.spends c.in_ok-sign.ensures.tree in
+          read_into (read_on (whole b (four ∙ sym c.if-count-eq-FEW.true)) (reads_sign c.requires.nest c.in-Some.less op)) put.spends
+          put.len (put.row _ _);
     }
 
 pub terms-loop-stop-preserved : goal.terms-loop-stop-preserved
@@ -401,6 +393,5 @@ terms-loop-stop-preserved g t c =
           (sign_placed c.loop-stop.nodes c.loop-stop.count i.few.0 i.nodes c.loop-stop.minus _ k.tree.placed c.in_ok-sign.ensures.tree).frame;
       doubled = i.doubled;
       read = λ from old first. read_on (term_more _ c.loop-stop.count i.few.0 i.nodes c.requires.nest k.spends c.loop-stop.minus _
-          (i.read from old first) k.tree c.in_ok-sign.ensures.spends c.in_ok-sign.ensures.tree)
-          (reads_sign c.requires.nest c.in-Some.less op);
+          (i.read from old first) k.tree c.in_ok-sign.ensures.spends c.in_ok-sign.ensures.tree) (reads_sign c.requires.nest c.in-Some.less op);
     }
