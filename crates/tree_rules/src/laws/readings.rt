@@ -16,22 +16,26 @@ pub fn one_program()
 {}
 
 /// A text has at most one reading: a tree, or the first token that is refused and why.
+#[tactic(auto, using(crate::proofs::RefusalLemmas::same_reading))]
 pub fn one_reading()
     ensures { (bytes : List ℕ) (r s : Result Stmts Refused) → TreeOf bytes r → TreeOf bytes s → r ≡ s }
 {}
 
 /// Each text has a reading, and by `one_reading` exactly one.
+#[tactic(auto, using(crate::proofs::RefusalLemmas::some_reading))]
 pub fn some_reading()
     ensures { (bytes : List ℕ) → (r : Result Stmts Refused) × TreeOf bytes r }
 {}
 
 /// The machine that judges a text token by token refuses it exactly as its reading says.
+#[tactic(auto, using(crate::proofs::RefusalLemmas::machine_says, crate::proofs::RefusalLemmas::reading))]
 pub fn machine()
     ensures same { (bytes : List ℕ) (r : Result Stmts Refused) → TreeOf bytes r → refusal_of bytes ≡ refused_by r }
     ensures read { (bytes : List ℕ) → IsReading bytes (refusal_of bytes) }
 {}
 
 /// A text has exactly one report: its refusal, or the findings of its tree.
+#[tactic(auto, using(crate::proofs::RefusalLemmas::same_report, crate::proofs::RefusalLemmas::some_report))]
 pub fn one_report()
     ensures one { (bytes : List ℕ) (r s : Result (List Finding) Refused) → IsReport bytes r → IsReport bytes s
         → r ≡ s }

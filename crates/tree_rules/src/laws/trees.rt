@@ -21,12 +21,14 @@ pub fn well_formed()
 
 /// A text has at least as many bytes as the weight of its tree: one for each definition and each block, and those of
 /// the names that are defined.
+#[tactic(auto, using(crate::proofs::WeightLemmas::tree_light))]
 pub fn tree_weight()
     ensures { (bytes : List ℕ) (t : Stmts) → TreeOf bytes (Ok t) → weights t ≤ length bytes }
 {}
 
 /// Folding keeps the value of an expression, whatever the values of names. Folded trees are well formed and their
 /// numbers fit, if that was so before.
+#[tactic(auto, using(crate::proofs::FoldLemmas::folded_value, crate::proofs::FoldLemmas::stmts_plain, crate::proofs::FoldLemmas::stmts_small))]
 pub fn folding()
     ensures value { (e : Expr) (env : List ℕ → ℤ) → value_of (folded e) env ≡ value_of e env }
     ensures keeps { (t : Stmts) → AreStmts t → AreStmts (folded_stmts t) }
