@@ -51,6 +51,7 @@ pub fn place_name<C: ChunkSource>(a: &mut Allocator<C>, name: &[u8]) -> Grown<St
 /// # Errors
 ///
 /// As `place_name`. The node is unchanged.
+#[tactic(auto, using(crate::proofs::BuildLemmas::name_placed))]
 pub fn name_node<C: ChunkSource>(a: &mut Allocator<C>, name: &[u8], node: &mut Node) -> Grown<()>
     requires { length name.now ≤ 2 ^ 24 }
     ensures tree { OnOk result (IsPlaced (Name name.now) a.old.memory a.new.memory node.new) }
