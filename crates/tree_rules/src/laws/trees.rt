@@ -28,7 +28,7 @@ pub fn tree_weight()
 
 /// Folding keeps the value of an expression, whatever the values of names. Folded trees are well formed and their
 /// numbers fit, if that was so before.
-#[tactic(auto, using(crate::proofs::FoldLemmas::folded_value, crate::proofs::FoldLemmas::stmts_plain, crate::proofs::FoldLemmas::stmts_small))]
+#[tactic(auto, using(crate::proofs::FoldLemmas::same_value, crate::proofs::FoldLemmas::stmts_plain, crate::proofs::FoldLemmas::all_small))]
 pub fn folding()
     ensures value { (e : Expr) (env : List ℕ → ℤ) → value_of (folded e) env ≡ value_of e env }
     ensures keeps { (t : Stmts) → AreStmts t → AreStmts (folded_stmts t) }
