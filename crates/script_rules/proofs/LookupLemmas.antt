@@ -1,5 +1,5 @@
 -- What is found under names, and which sets of bits there are.
-use Rattle.std.proofs.Common.{◌≡◌, ℕ, refl, sym, ap, ◌∙◌, arith, Bool, true, false, true≢false, cond, not, ◌&&◌, ◌||◌, is_some, IsTrue, Some, None, Option, [], ◌∷◌, nat_cmp}
+use Rattle.std.proofs.Common.{◌≡◌, ℕ, refl, sym, ap, ◌∙◌, arith, Bool, true, false, cond, not, ◌&&◌, ◌||◌, is_some, IsTrue, Some, None, Option, [], ◌∷◌, nat_cmp}
 use Rattle.std.specs.Prelude.{◌==◌, nat_lt, if◌then◌else◌}
 use Rattle.std.specs.Ordering.{eq_by_cmp}
 use Rattle.std.specs.Cmp.{nat_cmp_total, unsigned_tied}
@@ -34,55 +34,38 @@ module _ {X : Type 0} where
 -- ---- Bits are a set, and what is done to them is done to it
 
 is_some_if : (b : Bool) (o : Option (Unit {0})) → is_some (if b then Some tt else o) ≡ (is_some o || b)
-is_some_if false (Some u) = refl
-is_some_if true (Some u) = refl
-is_some_if _ _ = refl
+is_some_if b o = grind (arith, nat_tests)
 
 pub has_bind : (bits : Bits) (b q : ℕ) → has (bind bits b tt) q ≡ with_bit (has bits) b q
 has_bind bits b q = ap is_some (get_bind bits b tt q) ∙ is_some_if (q == b) (get bits q)
 
 none_if : (b : Bool) (o : Option (Unit {0})) → is_some (if b then None else o) ≡ (is_some o && not b)
-none_if true (Some u) = refl
-none_if false (Some u) = refl
-none_if _ _ = refl
+none_if b o = grind (arith, nat_tests)
 
 pub has_unbind : (bits : Bits) (b q : ℕ) → has (unbind bits b) q ≡ without_bit (has bits) b q
 has_unbind bits b q = ap is_some (get_unbind bits b q) ∙ none_if (q == b) (get bits q)
 
 -- one step of a union: a bit is added by this one of the other bits, if this one is below the end
-one_more : (a l m s : Bool) → (s ≡ true → l ≡ true) → ((a || s) || l && m) ≡ (a || l && (m || s))
-one_more false true true true h = refl
-one_more false true false true h = refl
-one_more false false m true h = absurd (true≢false (sym (h refl)))
-one_more _ _ _ _ h = refl
-
-none_more : (a l m s : Bool) → (s ≡ true → l ≡ false) → (a || l && m) ≡ (a || l && (m || s))
-none_more false true m true h = absurd (true≢false (h refl))
-none_more false true true false h = refl
-none_more _ _ _ _ h = refl
+one_more : (t a l m s : Bool) → (s ≡ true → l ≡ t) → ((if t then a || s else a) || l && m) ≡ (a || l && (m || s))
+one_more t a l m s h = grind (arith, nat_tests)
 
 none_at_all : (a l : Bool) → a ≡ (a || l && false)
-none_at_all false false = refl
-none_at_all _ _ = refl
+none_at_all a l = grind (arith, nat_tests)
 
 has_first : (q : ℕ) (e : ℕ × Unit {0}) (more : Bits) → has (e ∷ more) q ≡ (has more q || q == e.0)
 has_first q e more = ap (λ b. is_some (cond b (Some e.1) (get more q))) (unsigned_tied q e.0) ∙ is_some_if (q == e.0) (get more q)
 
-inside : (x y z : ℕ) → nat_lt y z ≡ true → (x == y) ≡ true → nat_lt x z ≡ true
-inside x y z l s = grind (arith, nat_tests)
+beside : (x y z : ℕ) → (x == y) ≡ true → nat_lt x z ≡ nat_lt y z
+beside x y z s = grind (arith, nat_tests)
 
-outside : (x y z : ℕ) → nat_lt y z ≡ false → (x == y) ≡ true → nat_lt x z ≡ false
-outside x y z l s = grind (arith, nat_tests)
+has_if : (t : Bool) (bits : Bits) (b q : ℕ) → has (if t then bind bits b tt else bits) q ≡ (if t then has bits q || q == b else has bits q)
+has_if true bits b q = has_bind bits b q
+has_if false bits b q = refl
 
 pub has_united : (end : ℕ) (bits more : Bits) (q : ℕ) → has (united end bits more) q ≡ joined (has bits) (below end (has more)) q
 has_united end bits [] q = none_at_all (has bits q) (nat_lt q end)
 has_united end bits (e ∷ more) q =
     has_united end (if nat_lt e.0 end then bind bits e.0 tt else bits) more q
-    ∙ elim (nat_lt e.0 end) as (λ b. nat_lt e.0 end ≡ b
-    → (has (if b then bind bits e.0 tt else bits) q || nat_lt q end && has more q)
-    ≡ (has bits q || nat_lt q end && (has more q || q == e.0))) [
-      | true ↦ λ t. ap (λ b. b || nat_lt q end && has more q) (has_bind bits e.0 q)
-          ∙ one_more (has bits q) (nat_lt q end) (has more q) (q == e.0) (inside q e.0 end t)
-      | false ↦ λ t. none_more (has bits q) (nat_lt q end) (has more q) (q == e.0) (outside q e.0 end t)
-    ] refl
+    ∙ ap (λ b. b || nat_lt q end && has more q) (has_if (nat_lt e.0 end) bits e.0 q)
+    ∙ one_more (nat_lt e.0 end) (has bits q) (nat_lt q end) (has more q) (q == e.0) (beside q e.0 end)
     ∙ ap (λ b. has bits q || nat_lt q end && b) (sym (has_first q e more))

@@ -1,6 +1,7 @@
 -- What steps and runs keep, and what they cost.
 use Rattle.std.proofs.Common.{◌≡◌, ℕ, zero, suc, ◌+◌, ◌≤◌, refl, sym, ap, ◌∙◌, arith, true, true≢false, Some, None, List, [], ◌∷◌, ◌++◌, length, take}
 use Rattle.std.specs.List.{AllByRecursion}
+use Rattle.std.proofs.lemmas.List.{take_all}
 use Rattle.script_rules.specs.Objects.{get, Objects, need, IsObject, AreObjects}
 use Rattle.script_rules.specs.Effects.{Effect, Tells, Gives, LetsGo, effect}
 use Rattle.script_rules.specs.Machine.{Answer, settle, step, is_refusal, answer_first, run_from, run, ran_on, sum, cost_of, cost_of_first}
@@ -11,58 +12,39 @@ use Rattle.script_rules.proofs.EffectLemmas.{HoldsObject, Serves, serves}
 
 -- ---- One step
 
-held_objects : (objects : Objects) → AreObjects objects → (n : ℕ) → HoldsObject (get objects n)
-held_objects objects are n =
-    elim (get objects n) as (λ o. get objects n ≡ o
-    → HoldsObject o) [ None ↦ λ e. tt | Some o ↦ λ e. get_among IsObject objects n o are.each e ] refl
+-- What an answer leaves: a refused command leaves the objects, and costs nothing.
+pub record IsSettled (objects : Objects) (answer : Answer) : Type 0 where
+  pub keeps : AreObjects answer.objects
+  pub needs : need answer.objects ≤ need objects + answer.cost
+  pub refused : is_refusal answer.reply ≡ true → (answer.objects ≡ objects) × (answer.cost ≡ 0)
+  pub bytes : HasBytes answer.reply
 
-step_serves : (c : Command) (objects : Objects) → AreObjects objects → Serves (get objects) (effect c (get objects))
-step_serves c objects are = serves c (get objects) (held_objects objects are)
+settled : (objects : Objects) (e : Effect) → AreObjects objects → Serves (get objects) e → IsSettled objects (settle objects e)
+settled objects (Tells reply) are s = record { keeps = are; needs = omega arith; refused = λ r. (refl, refl); bytes = s }
+settled objects (Gives n o reply cost) are s = record {
+  keeps = record { rising = rising_bind objects n o are.rising; each = all_bind (λ e. IsObject e.1) objects n o s.1 are.each };
+  needs = omega (arith, need_bind objects n o are.rising, s.2);
+  refused = λ r. absurd (true≢false (sym r ∙ s.0.0));
+  bytes = s.0.1;
+}
+settled objects (LetsGo n) are s = record {
+  keeps = record { rising = rising_unbind objects n are.rising; each = all_filter _ _ objects are.each };
+  needs = omega (arith, need_unbind objects n);
+  refused = λ r. absurd (true≢false (sym r));
+  bytes = tt;
+}
 
-settled_objects : (objects : Objects) (e : Effect) → AreObjects objects → Serves (get objects) e → AreObjects (settle objects e).objects
-settled_objects objects (Tells reply) are s = are
-settled_objects objects (Gives n o reply cost) are s =
-    record { rising = rising_bind objects n o are.rising; each = all_bind (λ e. IsObject e.1) objects n o s.1 are.each }
-settled_objects objects (LetsGo n) are s = record { rising = rising_unbind objects n are.rising; each = all_filter _ _ objects are.each }
-
-settled_need : (objects : Objects) (e : Effect) → AreObjects objects → Serves (get objects) e
-    → need (settle objects e).objects ≤ need objects + (settle objects e).cost
-settled_need objects (Tells reply) are s = omega arith
-settled_need objects (Gives n o reply cost) are s = omega (arith, need_bind objects n o are.rising, s.2)
-settled_need objects (LetsGo n) are s = omega (arith, need_unbind objects n)
-
--- a refused command leaves the objects, and costs nothing
-abbrev Unchanged : Objects → Answer → Type 0
-Unchanged objects answer = (answer.objects ≡ objects) × (answer.cost ≡ 0)
-
-settled_refusal : (objects : Objects) (e : Effect) → Serves (get objects) e → is_refusal (settle objects e).reply ≡ true
-    → Unchanged objects (settle objects e)
-settled_refusal objects (Tells reply) s r = (refl, refl)
-settled_refusal objects (Gives n o reply cost) s r = absurd (true≢false (sym r ∙ s.0.0))
-settled_refusal objects (LetsGo n) s r = absurd (true≢false (sym r))
-
-settled_bytes : (objects : Objects) (e : Effect) → Serves (get objects) e → HasBytes (settle objects e).reply
-settled_bytes objects (Tells reply) s = s
-settled_bytes objects (Gives n o reply cost) s = s.0.1
-settled_bytes objects (LetsGo n) s = tt
+pub stepped : (c : Command) (objects : Objects) → AreObjects objects → IsSettled objects (step c objects)
+stepped c objects are = settled objects (effect c (get objects)) are (serves c (get objects) held)
+  where
+    held : (n : ℕ) → HoldsObject (get objects n)
+    held n = elim (get objects n) as (λ o. get objects n ≡ o → HoldsObject o) [
+      | None ↦ λ e. tt
+      | Some o ↦ λ e. get_among IsObject objects n o are.each e
+    ] refl
 
 pub step_keeps : (c : Command) (objects : Objects) → AreObjects objects → AreObjects (step c objects).objects
-step_keeps c objects are = settled_objects objects (effect c (get objects)) are (step_serves c objects are)
-
-pub step_need : (c : Command) (objects : Objects) → AreObjects objects
-    → need (step c objects).objects ≤ need objects + (step c objects).cost
-step_need c objects are = settled_need objects (effect c (get objects)) are (step_serves c objects are)
-
-pub refused_objects : (c : Command) (objects : Objects) → AreObjects objects → is_refusal (step c objects).reply ≡ true
-    → (step c objects).objects ≡ objects
-refused_objects c objects are r = (settled_refusal objects (effect c (get objects)) (step_serves c objects are) r).0
-
-pub refused_cost : (c : Command) (objects : Objects) → AreObjects objects → is_refusal (step c objects).reply ≡ true
-    → (step c objects).cost ≡ 0
-refused_cost c objects are r = (settled_refusal objects (effect c (get objects)) (step_serves c objects are) r).1
-
-pub step_bytes : (c : Command) (objects : Objects) → AreObjects objects → HasBytes (step c objects).reply
-step_bytes c objects are = settled_bytes objects (effect c (get objects)) (step_serves c objects are)
+step_keeps c objects are = (stepped c objects are).keeps
 
 -- ---- A run
 
@@ -79,7 +61,7 @@ pub run_need : (objects : Objects) (script : List Command) → AreObjects object
 unfolding run_from
 run_need objects [] are = omega arith
 run_need objects (c ∷ script) are =
-    omega (arith, step_need c objects are, run_need (step c objects).objects script (step_keeps c objects are))
+    omega (arith, (stepped c objects are).needs, run_need (step c objects).objects script (step_keeps c objects are))
 
 pub script_need : (script : List Command) → need (run script).objects ≤ cost_of script
 script_need script = omega (arith, run_need [] script no_objects)
@@ -87,7 +69,7 @@ script_need script = omega (arith, run_need [] script no_objects)
 pub run_bytes : (objects : Objects) (script : List Command) → AreObjects objects → AllByRecursion HasBytes (run_from objects script).replies
 unfolding run_from
 run_bytes objects [] are = tt
-run_bytes objects (c ∷ script) are = (step_bytes c objects are, run_bytes (step c objects).objects script (step_keeps c objects are))
+run_bytes objects (c ∷ script) are = ((stepped c objects are).bytes, run_bytes (step c objects).objects script (step_keeps c objects are))
 
 pub reply_count : (objects : Objects) (script : List Command) → length (run_from objects script).replies ≡ length script
 unfolding run_from
@@ -132,10 +114,6 @@ sum_take (suc i) (suc j) (n ∷ ns) h = omega (arith, sum_take i j ns (omega ari
 pub cost_rises : (i j : ℕ) (script : List Command) → i ≤ j → cost_of_first i script ≤ cost_of_first j script
 cost_rises i j script h = sum_take i j (run script).costs h
 
-sum_first : (i : ℕ) (ns : List ℕ) → sum (take i ns) ≤ sum ns
-sum_first zero ns = omega arith
-sum_first (suc i) [] = omega arith
-sum_first (suc i) (n ∷ ns) = omega (arith, sum_first i ns)
-
 pub first_within : (i : ℕ) (script : List Command) → cost_of_first i script ≤ cost_of script
-first_within i script = sum_first i (run script).costs
+first_within i script = let ns = (run script).costs in
+    rw (take_all (i + length ns) ns (omega arith)) at (sum_take i (i + length ns) ns (omega arith))
