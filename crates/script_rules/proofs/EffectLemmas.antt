@@ -93,11 +93,8 @@ module _ (of : ℕ → Option Object) where
   ] refl
 
   by_copy : (name : ℕ) (o : Object) → IsObject o → Serves of (free (of name) (Gives name o Done (copy_cost o)))
-  by_copy name (AList items) is = by_free name (AList items) (24 * length items) is (omega arith)
-  by_copy name (AText bytes) is = by_free name (AText bytes) (32 + 4 * length bytes) is (omega arith)
-  by_copy name (ASet capacity bits) is = by_free name (ASet capacity bits) (8 * words_for capacity + 7) is (omega arith)
-  by_copy name (AMap pairs) is = by_free name (AMap pairs) (256 * length pairs) is (omega arith)
-  by_copy name (AValue value) is = by_free name (AValue value) 15 is (omega arith)
+  by_copy name (AList items) is = by_free name _ _ is (omega arith)
+  by_copy name _ is = by_free name _ _ is (omega arith)
 
 -- ---- Parts
 

@@ -69,3 +69,7 @@ has_united end bits (e ∷ more) q =
     ∙ ap (λ b. b || nat_lt q end && has more q) (has_if (nat_lt e.0 end) bits e.0 q)
     ∙ one_more (nat_lt e.0 end) (has bits q) (nat_lt q end) (has more q) (q == e.0) (beside q e.0 end)
     ∙ ap (λ b. has bits q || nat_lt q end && b) (sym (has_first q e more))
+
+pub ruleset entry_laws = (get_bind, get_unbind, same_by_get)
+
+pub ruleset bit_laws = (has_bind, has_unbind, has_united)

@@ -188,18 +188,3 @@ gather_back (script ∷ scripts) =
     ap (λ (p : Gathered). ([], p.0 ∷ p.1)) (gather_does script (flat_map begun scripts))
     ∙ ap (λ (p : Gathered). ([], (script ++ p.0) ∷ p.1)) (gather_back scripts)
     ∙ ap (λ s. ([], s ∷ scripts)) (append-nil script)
-
--- what was gathered are the lines,
-pub gathered : (ls : List Line) → map Does (gather ls).0 ++ flat_map begun (gather ls).1 ≡ ls
-unfolding gather
-gathered [] = refl
-gathered (Begins ∷ ls) = ap (λ more. Begins ∷ more) (gathered ls)
-gathered (Does c ∷ ls) = ap (λ more. Does c ∷ more) (gathered ls)
-
--- and fits where they do
-pub gather_fits : (ls : List Line) → AllByRecursion IsGood ls
-    → AllByRecursion Fits (gather ls).0 × AllByRecursion (AllByRecursion Fits) (gather ls).1
-unfolding gather
-gather_fits [] h = (tt, tt)
-gather_fits (Begins ∷ ls) h = (tt, gather_fits ls h.1)
-gather_fits (Does c ∷ ls) h = let more = gather_fits ls h.1 in ((h.0, more.0), more.1)

@@ -117,3 +117,7 @@ cost_rises i j script h = sum_take i j (run script).costs h
 pub first_within : (i : ℕ) (script : List Command) → cost_of_first i script ≤ cost_of script
 first_within i script = let ns = (run script).costs in
     rw (take_all (i + length ns) ns (omega arith)) at (sum_take i (i + length ns) ns (omega arith))
+
+pub ruleset run_laws = (run_keeps, run_need, reply_count, cost_count, no_objects, script_need)
+
+pub ruleset prefix_laws = (goes_on, first_replies, first_cost, cost_rises, first_within)

@@ -1,13 +1,12 @@
 -- All bytes have a reading: of each line it is decided whether it begins a script, is a command, or neither.
-use Rattle.std.proofs.Common.{◌≡◌, ◌≢◌, ℕ, ◌+◌, ◌^◌, List, [], ◌∷◌, ◌++◌, length, map, inl, inr, refl, sym, ap, ◌∙◌, subst, arith, codes, Ok, Err}
+use Rattle.std.proofs.Common.{◌≡◌, ◌≢◌, ℕ, ◌+◌, ◌^◌, List, [], ◌∷◌, ◌++◌, length, map, inl, inr, refl, sym, ap, ◌∙◌, subst, codes, Ok, Err}
 use Rattle.std.specs.Prelude.{Result, ◌⊎◌}
 use Rattle.std.specs.List.{AllByRecursion, filter, flat_map}
 use Rattle.call_rules.specs.Grammar.{lines_of}
 use Rattle.call_rules.proofs.DecisionLemmas.{Decided, both, below, are_bytes, same}
-use Rattle.script_rules.specs.Grammar.{Part, Bits, Hex, IsPart, written, command_line, Fits, is_some_line, AreScripts, IsFirstRefused, ScriptsOf}
+use Rattle.script_rules.specs.Grammar.{Part, Bits, Hex, IsPart, written, command_line, Fits, is_some_line, script_lines, AreScripts, IsRefused, IsFirstRefused, ScriptsOf}
 use Rattle.script_rules.specs.declared.commands.Command.{Command}
-use Rattle.script_rules.proofs.ReadingLemmas.{Line, Begins, Does, line_text, IsGood, read_line, read_line_back, texts, begun, script_texts, gather, gathered, gather_fits}
-use Rattle.std.proofs.lemmas.List.Elements.{filter-append}
+use Rattle.script_rules.proofs.ReadingLemmas.{Line, Begins, Does, line_text, IsGood, read_line, read_line_back}
 
 -- ---- One line
 
@@ -40,187 +39,120 @@ is_line line = go (is_good (found line)) (same line (line_text (found line)))
 
 -- ---- Many lines
 
--- the lines that aren't empty are these
-pub record AreLines (lines : List (List ℕ)) (ls : List Line) : Type 0 where
-  pub good : AllByRecursion IsGood ls
-  pub text : filter is_some_line lines ≡ texts ls
+-- The lines that aren't empty are these commands and then these scripts.
+record IsRest (lines : List (List ℕ)) (commands : List Command) (scripts : List (List Command)) : Type 0 where
+  fit : AllByRecursion Fits commands
+  all_fit : AllByRecursion (AllByRecursion Fits) scripts
+  text : filter is_some_line lines ≡ map command_line commands ++ flat_map script_lines scripts
 
--- the first line that is neither has this number
-pub record IsFirstBad (lines : List (List ℕ)) (n : ℕ) : Type 0 where
-  pub before : List (List ℕ)
-  pub ls : List Line
-  pub line : List ℕ
-  pub after : List (List ℕ)
-  pub all : lines ≡ before ++ line ∷ after
-  pub place : n ≡ length before + 1
-  pub good : AreLines before ls
-  pub some : line ≢ []
-  pub none : IsLine line → ⊥
+-- Those before this line are, and it is the first that isn't.
+record IsFirst (Bad : List ℕ → Type 0) (lines : List (List ℕ)) (commands : List Command) (scripts : List (List Command)) : Type 0 where
+  before : List (List ℕ)
+  line : List ℕ
+  after : List (List ℕ)
+  all : lines ≡ before ++ line ∷ after
+  good : IsRest before commands scripts
+  bad : Bad line
 
-abbrev IsRead : List (List ℕ) → Type 0
-IsRead lines = ((ls : List Line) × AreLines lines ls) ⊎ ((n : ℕ) × IsFirstBad lines n)
+abbrev IsRead : (List ℕ → Type 0) → List (List ℕ) → List Command → List (List Command) → Type 0
+IsRead Bad lines commands scripts = IsRest lines commands scripts ⊎ IsFirst Bad lines commands scripts
 
-empty_first : (lines : List (List ℕ)) → IsRead lines → IsRead ([] ∷ lines)
-empty_first lines (inl (ls, are)) = inl (ls, record { good = are.good; text = are.text })
-empty_first lines (inr (n, bad)) =
-    let place = bad.place in
-    inr (
-      n + 1,
-      record {
-        before = [] ∷ bad.before;
-        ls = bad.ls;
-        line = bad.line;
-        after = bad.after;
-        all = ap (λ more. [] ∷ more) bad.all;
-        place = omega arith;
-        good = record { good = bad.good.good; text = bad.good.text };
-        some = bad.some;
-        none = bad.none;
-      },
-    )
+no_lines : IsRest [] [] []
+no_lines = record { fit = tt; all_fit = tt; text = refl }
 
-line_first : (b : ℕ) (line : List ℕ) (lines : List (List ℕ)) → IsLine (b ∷ line) → IsRead lines → IsRead ((b ∷ line) ∷ lines)
-line_first b line lines (l, is) (inl (ls, are)) =
-    inl (
-      l ∷ ls,
-      record {
-        good = (is.0, are.good);
-        text = ap (λ t. t ∷ filter is_some_line lines) is.1
-            ∙ ap (λ more. line_text l ∷ more) are.text;
-      },
-    )
-line_first b line lines (l, is) (inr (n, bad)) =
-    let place = bad.place in
-    inr (
-      n + 1,
-      record {
-        before = (b ∷ line) ∷ bad.before;
-        ls = l ∷ bad.ls;
-        line = bad.line;
-        after = bad.after;
-        all = ap (λ more. (b ∷ line) ∷ more) bad.all;
-        place = omega arith;
-        good =
-            record {
-              good = (is.0, bad.good.good);
-              text = ap (λ t. t ∷ filter is_some_line bad.before) is.1
-                  ∙ ap (λ more. line_text l ∷ more) bad.good.text;
-            };
-        some = bad.some;
-        none = bad.none;
-      },
-    )
+blank : {commands : List Command} {scripts : List (List Command)} (lines : List (List ℕ)) → IsRest lines commands scripts
+    → IsRest ([] ∷ lines) commands scripts
+blank lines is = record { fit = is.fit; all_fit = is.all_fit; text = is.text }
 
-read : (lines : List (List ℕ)) → IsRead lines
-read [] = inl ([], record { good = tt; text = refl })
-read ([] ∷ lines) = empty_first lines (read lines)
+begin : {commands : List Command} {scripts : List (List Command)} (l : List ℕ) → l ≡ codes "script" → (lines : List (List ℕ))
+    → IsRest lines commands scripts → IsRest (l ∷ lines) [] (commands ∷ scripts)
+begin l begins lines is =
+    record { fit = tt; all_fit = (is.fit, is.all_fit); text = rw begins (ap (λ ls. codes "script" ∷ ls) is.text) }
+
+-- one line more in front
+in_front : {Bad Worse : List ℕ → Type 0} {commands now : List Command} {scripts later : List (List Command)} (l : List ℕ)
+    → ((line : List ℕ) → Bad line → Worse line)
+    → ((lines : List (List ℕ)) → IsRest lines commands scripts → IsRest (l ∷ lines) now later)
+    → (lines : List (List ℕ)) → IsRead Bad lines commands scripts → IsRead Worse (l ∷ lines) now later
+in_front l worse more lines (inl is) = inl (more lines is)
+in_front l worse more lines (inr is) = inr (record {
+  before = l ∷ is.before;
+  line = is.line;
+  after = is.after;
+  all = ap (λ ls. l ∷ ls) is.all;
+  good = more is.before is.good;
+  bad = worse is.line is.bad;
+})
+
+at_once : {Bad : List ℕ → Type 0} (line : List ℕ) (lines : List (List ℕ)) → Bad line → IsRead Bad (line ∷ lines) [] []
+at_once line lines bad = inr (record { before = []; line = line; after = lines; all = refl; good = no_lines; bad = bad })
+
+-- after a script has begun
+abbrev IsNone : List ℕ → Type 0
+IsNone line = (line ≢ []) × (IsLine line → ⊥)
+
+abbrev Reads : List (List ℕ) → Type 0
+Reads lines = (commands : List Command) × (scripts : List (List Command)) × IsRead IsNone lines commands scripts
+
+read : (lines : List (List ℕ)) → Reads lines
+read [] = ([], [], inl no_lines)
+read ([] ∷ lines) = let r = read lines in (r.0, r.1, in_front [] (λ _ bad. bad) blank lines r.2)
 read ((b ∷ line) ∷ lines) = elim (is_line (b ∷ line)) [
-  | inl is ↦ line_first b line lines is (read lines)
-  | inr none ↦ inr (
-    1,
-    record {
-      before = [];
-      ls = [];
-      line = b ∷ line;
-      after = lines;
-      all = refl;
-      place = refl;
-      good = record { good = tt; text = refl };
-      some = λ e. cc;
-      none = none;
-    },
+  | inl is ↦ by is.0 is.1.0 is.1.1 (read lines)
+  | inr none ↦ ([], [], at_once {Bad = IsNone} (b ∷ line) lines (λ e. cc, none))
+]
+  where
+    by : (l : Line) → IsGood l → b ∷ line ≡ line_text l → Reads lines → Reads ((b ∷ line) ∷ lines)
+    by Begins good text (cs, scripts, is) =
+        ([], cs ∷ scripts, in_front (b ∷ line) (λ _ bad. bad) (begin (b ∷ line) text) lines is)
+    by (Does c) good text (cs, scripts, is) = (
+      c ∷ cs,
+      scripts,
+      in_front (b ∷ line) (λ _ bad. bad)
+          (λ ls rest. record {
+            fit = (good, rest.fit);
+            all_fit = rest.all_fit;
+            text = rw text (ap (λ ls. command_line c ∷ ls) rest.text);
+          }) lines is,
+    )
+
+-- The first line that isn't empty begins a script, or is refused.
+read_all : (lines : List (List ℕ)) → (scripts : List (List Command)) × IsRead (IsRefused scripts) lines [] scripts
+read_all [] = ([], inl no_lines)
+read_all ([] ∷ lines) = let r = read_all lines in (r.0, in_front [] (λ _ bad. bad) blank lines r.1)
+read_all ((b ∷ line) ∷ lines) = elim (same (b ∷ line) (codes "script")) [
+  | inl begins ↦ (let r = read lines in (
+    r.0 ∷ r.1,
+    in_front (b ∷ line)
+        (λ l bad. record {
+          some = bad.0;
+          begins_none = λ e. bad.1 (Begins, (tt, e));
+          none = λ _ c is. bad.1 (Does c, (is.fits, is.text));
+        }) (begin (b ∷ line) begins) lines r.2,
+  ))
+  | inr other ↦ (
+    [],
+    at_once {Bad = IsRefused []} (b ∷ line) lines
+        (record { some = λ e. cc; begins_none = other; none = λ some. absurd (some refl) }),
   )
 ]
 
--- ---- Scripts
-
--- The first line that isn't empty is refused where it doesn't begin a script.
-first_refused : (lines more : List (List ℕ)) (first : List ℕ) → first ≢ codes "script" → filter is_some_line lines ≡ first ∷ more
-    → (n : ℕ) × IsFirstRefused lines n
-first_refused [] more first other e = absurd (cc)
-first_refused ([] ∷ lines) more first other e =
-    let r = first_refused lines more first other e in
-    let place = r.1.place in (
-      r.0 + 1,
-      record {
-        before = [] ∷ r.1.before;
-        scripts = r.1.scripts;
-        line = r.1.line;
-        after = r.1.after;
-        all = ap (λ ls. [] ∷ ls) r.1.all;
-        place = omega arith;
-        good = record { fit = r.1.good.fit; text = r.1.good.text };
-        bad = r.1.bad;
-      },
-    )
-first_refused ((b ∷ line) ∷ lines) more first other e =
-    let same : b ∷ line ≡ first = cc in (
-      1,
-      record {
-        before = [];
-        scripts = [];
-        line = b ∷ line;
-        after = lines;
-        all = refl;
-        place = refl;
-        good = record { fit = tt; text = refl };
-        bad = record { some = λ e. cc; begins_none = λ begins. other (sym same ∙ begins); none = λ some. absurd (some refl) };
-      },
-    )
-
-no_begin : (c : Command) → Fits c → command_line c ≢ codes "script"
-no_begin c fits e =
-    let same : Does c ≡ Begins = sym (read_line_back (Does c) fits) ∙ ap (λ t. read_line (t ++ 10 ∷ [])) e ∙ read_line_back Begins tt in
-    absurd (cc)
-
--- lines that begin with no command are scripts
-are_scripts : (lines : List (List ℕ)) (ls : List Line) → (gather ls).0 ≡ [] → AreLines lines ls → AreScripts lines (gather ls).1
-are_scripts lines ls none are = record {
-  fit = (gather_fits ls are.good).1;
-  text =
-      are.text ∙ ap texts (sym (gathered ls) ∙ ap (λ cs. map Does cs ++ flat_map begun (gather ls).1) none)
-      ∙ sym (script_texts (gather ls).1);
-}
-
-abbrev HasReading : List (List ℕ) → Type 0
-HasReading lines = ((scripts : List (List Command)) × AreScripts lines scripts) ⊎ ((n : ℕ) × IsFirstRefused lines n)
-
-by_good : (lines : List (List ℕ)) (ls : List Line) → AreLines lines ls → HasReading lines
-unfolding gather
-by_good lines [] are = inl ((gather []).1, are_scripts lines [] refl are)
-by_good lines (Begins ∷ ls) are = inl ((gather (Begins ∷ ls)).1, are_scripts lines (Begins ∷ ls) refl are)
-by_good lines (Does c ∷ ls) are = inr (first_refused lines (texts ls) (command_line c) (no_begin c are.good.0) are.text)
-
-refused_behind : (lines : List (List ℕ)) (n : ℕ) (bad : IsFirstBad lines n) → (gather bad.ls).0 ≡ [] → IsFirstRefused lines n
-refused_behind lines n bad none = record {
-  before = bad.before;
-  scripts = (gather bad.ls).1;
-  line = bad.line;
-  after = bad.after;
-  all = bad.all;
-  place = bad.place;
-  good = are_scripts bad.before bad.ls none bad.good;
-  bad =
-      record { some = bad.some; begins_none = λ e. bad.none (Begins, (tt, e)); none = λ some c is. bad.none (Does c, (is.fits, is.text)) };
-}
-
-by_bad : (lines : List (List ℕ)) (n : ℕ) (bad : IsFirstBad lines n) (ls : List Line) → bad.ls ≡ ls → HasReading lines
-unfolding gather
-by_bad lines n bad [] e = inr (n, refused_behind lines n bad (ap (λ ls. (gather ls).0) e))
-by_bad lines n bad (Begins ∷ ls) e = inr (n, refused_behind lines n bad (ap (λ ls. (gather ls).0) e))
-by_bad lines n bad (Does c ∷ ls) e =
-    let fits : Fits c = (subst (AllByRecursion IsGood) e bad.good.good).0 in
-    inr (first_refused lines (texts ls ++ filter is_some_line (bad.line ∷ bad.after)) (command_line c) (no_begin c fits)
-    (ap (filter is_some_line) bad.all ∙ filter-append is_some_line bad.before (bad.line ∷ bad.after)
-    ∙ ap (λ ts. ts ++ filter is_some_line (bad.line ∷ bad.after)) (bad.good.text ∙ ap texts e)))
-
 pub some_reading : (bytes : List ℕ) → (r : Result (List (List Command)) ℕ) × ScriptsOf bytes r
-some_reading bytes = by_reading (by_read (read (lines_of bytes)))
+some_reading bytes = by (read_all (lines_of bytes))
   where
-    by_read : IsRead (lines_of bytes) → HasReading (lines_of bytes)
-    by_read (inl (ls, are)) = by_good (lines_of bytes) ls are
-    by_read (inr (n, bad)) = by_bad (lines_of bytes) n bad bad.ls refl
-
-    by_reading : HasReading (lines_of bytes) → (r : Result (List (List Command)) ℕ) × ScriptsOf bytes r
-    by_reading (inl (scripts, are)) = (Ok scripts, are)
-    by_reading (inr (n, refused)) = (Err n, refused)
+    by : (scripts : List (List Command)) × IsRead (IsRefused scripts) (lines_of bytes) [] scripts
+        → (r : Result (List (List Command)) ℕ) × ScriptsOf bytes r
+    by (scripts, inl is) = (Ok scripts, record { fit = is.all_fit; text = is.text })
+    by (scripts, inr is) = (
+      Err (length is.before + 1),
+      record {
+        before = is.before;
+        scripts = scripts;
+        line = is.line;
+        after = is.after;
+        all = is.all;
+        place = refl;
+        good = record { fit = is.good.all_fit; text = is.good.text };
+        bad = is.bad;
+      },
+    )

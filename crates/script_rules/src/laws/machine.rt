@@ -20,6 +20,7 @@ pub fn steps()
 /// A run ends with well-formed objects. They need no more than the objects before and the cost of all commands
 /// together. There is one reply and one cost per command. A script begins with no objects, so its last objects need no
 /// more than it costs.
+#[tactic(auto, using(crate::proofs::RunLemmas::run_laws))]
 pub fn runs()
     ensures keeps { (objects : Objects) (script : List Command) → AreObjects objects
         → AreObjects (run_from objects script).objects }
@@ -35,6 +36,7 @@ pub fn runs()
 
 /// Runs can be continued: more commands run on what those before them left. So the first commands of a script have its
 /// first replies and the costs that they have in it, and more of them cost no less.
+#[tactic(auto, using(crate::proofs::RunLemmas::prefix_laws))]
 pub fn prefixes()
     ensures goes_on { (objects : Objects) (a b : List Command)
         → run_from objects (a ++ b) ≡ ran_on (run_from objects a) b }

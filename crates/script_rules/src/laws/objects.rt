@@ -4,6 +4,7 @@ ghost use Rattle.arena_rules.specs.Bits.{with_bit, without_bit, joined, below};
 ghost use Rattle.script_rules.specs.Objects.{Object, Objects, get, bind, unbind, are_rising, Bits, has, united};
 
 /// A name holds the last object that it was given, until it is removed. Objects that agree at all names are equal.
+#[tactic(auto, using(crate::proofs::LookupLemmas::entry_laws))]
 pub fn entries()
     ensures bound { (objects : Objects) (name : ℕ) (o : Object) (q : ℕ)
         → get (bind objects name o) q ≡ (if q == name then Some o else get objects q) }
@@ -15,6 +16,7 @@ pub fn entries()
 
 /// A command on a set does to its bits what the method of the same name does to a bit set: it adds one bit, removes
 /// one, or adds those bits of another set that are below an end.
+#[tactic(auto, using(crate::proofs::LookupLemmas::bit_laws))]
 pub fn bits()
     ensures set { (bits : Bits) (b q : ℕ) → has (bind bits b tt) q ≡ with_bit (has bits) b q }
     ensures unset { (bits : Bits) (b q : ℕ) → has (unbind bits b) q ≡ without_bit (has bits) b q }
