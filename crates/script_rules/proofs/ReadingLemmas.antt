@@ -1,9 +1,9 @@
 -- Lines of scripts, read back.
-use Rattle.std.proofs.Common.{◌≡◌, ℕ, List, [], ◌∷◌, ◌++◌, map, drop, get_or, refl, sym, ap, ◌∙◌, append_assoc, append-nil, codes}
+use Rattle.std.proofs.Common.{◌≡◌, ℕ, List, [], ◌∷◌, ◌++◌, length, map, drop, get_or, refl, sym, ap, ◌∙◌, append_assoc, append-nil, codes}
 use Rattle.std.specs.List.{AllByRecursion, flat_map}
 use Rattle.call_rules.specs.Grammar.{number, fields, hex}
-use Rattle.call_rules.proofs.LineLemmas.{read_by, read_fields, read_fields_back, read_field, read_field_back, read_hex, read_hex_back}
-use Rattle.script_rules.specs.Grammar.{Hex, word, part_text, command_line, Fits, script_lines}
+use Rattle.call_rules.proofs.LineLemmas.{read_by, read_fields, read_fields_back, read_hex, read_hex_back}
+use Rattle.script_rules.specs.Grammar.{Part, Bits, Hex, word, part_text, written, command_line, Fits, script_lines}
 use Rattle.script_rules.specs.declared.commands.Command.{Command}
 use Rattle.script_rules.specs.declared.commands.Command.TheVariants.{MakeList, MakeText, MakeBits, MakeMap, MakeValue, Push, Insert, Pop, Remove, At, Put, Truncate, Byte, Front, Append, SetBit, UnsetBit, HasBit, Union, Ones, Bind, Find, Unbind, Load, Store, Len, Show, CopyTo, DropName}
 
@@ -22,30 +22,28 @@ IsGood (Does command) = Fits command
 
 -- ---- One line
 
-one : (ℕ → Command) → List ℕ → Line
-one make text = Does (read_field make text).0
+made : ℕ → (List ℕ → Command) → List ℕ → Line
+made k make text = Does (make (read_fields k text).0)
 
-two : (ℕ → ℕ → Command) → List ℕ → Line
-two make text = let ns = (read_fields 2 text).0 in Does (make (get_or ns 0 0) (get_or ns 1 0))
+abbrev one : (ℕ → Command) → List ℕ → Line
+one make = made 1 (λ ns. make (get_or ns 0 0))
 
-three : (ℕ → ℕ → ℕ → Command) → List ℕ → Line
-three make text = let ns = (read_fields 3 text).0 in Does (make (get_or ns 0 0) (get_or ns 1 0) (get_or ns 2 0))
+abbrev two : (ℕ → ℕ → Command) → List ℕ → Line
+two make = made 2 (λ ns. make (get_or ns 0 0) (get_or ns 1 0))
+
+abbrev three : (ℕ → ℕ → ℕ → Command) → List ℕ → Line
+three make = made 3 (λ ns. make (get_or ns 0 0) (get_or ns 1 0) (get_or ns 2 0))
 
 append_of : List ℕ × List ℕ → Line
 append_of f = Does (Append (get_or f.0 0 0) (read_hex (drop 1 f.1)).0)
 
-one_back : (make : ℕ → Command) (a : ℕ) → one make (fields (a ∷ []) ++ 10 ∷ []) ≡ Does (make a)
-unfolding one
-one_back make a = ap (λ f. Does f.0) (read_field_back make a (10 ∷ []) refl)
+abbrev number_of : Part → ℕ
+number_of (Bits width n) = n
+number_of (Hex bytes) = 0
 
-two_back : (make : ℕ → ℕ → Command) (a b : ℕ) → two make (fields (a ∷ b ∷ []) ++ 10 ∷ []) ≡ Does (make a b)
-unfolding two
-two_back make a b = ap (λ f. Does (make (get_or f.0 0 0) (get_or f.0 1 0))) (read_fields_back (a ∷ b ∷ []) (10 ∷ []) refl)
-
-three_back : (make : ℕ → ℕ → ℕ → Command) (a b c : ℕ) → three make (fields (a ∷ b ∷ c ∷ []) ++ 10 ∷ []) ≡ Does (make a b c)
-unfolding three
-three_back make a b c =
-    ap (λ f. Does (make (get_or f.0 0 0) (get_or f.0 1 0) (get_or f.0 2 0))) (read_fields_back (a ∷ b ∷ c ∷ []) (10 ∷ []) refl)
+made_back : (make : List ℕ → Command) (ns : List ℕ) → made (length ns) make (fields ns ++ 10 ∷ []) ≡ Does (make ns)
+unfolding made
+made_back make ns = ap (λ f. Does (make f.0)) (read_fields_back ns (10 ∷ []) refl)
 
 append_back : (name : ℕ) (bytes : List ℕ) → Fits (Append name bytes)
     → append_of (read_fields 1 (flat_map part_text (word name ∷ Hex bytes ∷ []) ++ 10 ∷ [])) ≡ Does (Append name bytes)
@@ -98,35 +96,8 @@ read_line = read_by Begins
 pub read_line_back : (l : Line) → IsGood l → read_line (line_text l ++ 10 ∷ []) ≡ l
 unfolding read_line
 read_line_back Begins h = refl
-read_line_back (Does (MakeList name)) h = one_back MakeList name
-read_line_back (Does (MakeText name)) h = one_back MakeText name
-read_line_back (Does (MakeBits name capacity)) h = two_back MakeBits name capacity
-read_line_back (Does (MakeMap name)) h = one_back MakeMap name
-read_line_back (Does (MakeValue name value)) h = two_back MakeValue name value
-read_line_back (Does (Push name value)) h = two_back Push name value
-read_line_back (Does (Insert name at value)) h = three_back Insert name at value
-read_line_back (Does (Pop name)) h = one_back Pop name
-read_line_back (Does (Remove name at)) h = two_back Remove name at
-read_line_back (Does (At name at)) h = two_back At name at
-read_line_back (Does (Put name at value)) h = three_back Put name at value
-read_line_back (Does (Truncate name len)) h = two_back Truncate name len
-read_line_back (Does (Byte name byte)) h = two_back Byte name byte
-read_line_back (Does (Front name byte)) h = two_back Front name byte
 read_line_back (Does (Append name bytes)) h = append_back name bytes h
-read_line_back (Does (SetBit name bit)) h = two_back SetBit name bit
-read_line_back (Does (UnsetBit name bit)) h = two_back UnsetBit name bit
-read_line_back (Does (HasBit name bit)) h = two_back HasBit name bit
-read_line_back (Does (Union name other)) h = two_back Union name other
-read_line_back (Does (Ones name)) h = one_back Ones name
-read_line_back (Does (Bind name key value)) h = three_back Bind name key value
-read_line_back (Does (Find name key)) h = two_back Find name key
-read_line_back (Does (Unbind name key)) h = two_back Unbind name key
-read_line_back (Does (Load name)) h = one_back Load name
-read_line_back (Does (Store name value)) h = two_back Store name value
-read_line_back (Does (Len name)) h = one_back Len name
-read_line_back (Does (Show name)) h = one_back Show name
-read_line_back (Does (CopyTo name other)) h = two_back CopyTo name other
-read_line_back (Does (DropName name)) h = one_back DropName name
+read_line_back (Does c) h = made_back _ (map number_of (written c).1)
 
 -- ---- Many lines
 
