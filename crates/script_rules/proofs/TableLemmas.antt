@@ -40,3 +40,5 @@ module _ {X : Type 0} where
   pub tree_bind : (m n : BTreeMap ℕ X) (k : ℕ) (v : X) → tree.Updates nat_cmp m n k (Some v)
       → entries_of n.entries ≡ bind (entries_of m.entries) k v
   tree_bind m n k v updates = ap map.entries (tree_insert m n k v updates) ∙ map_bind (map.from_entries m.entries) k v
+
+pub ruleset name_laws = (no_entries, map_bind, map_unbind, get-entries)

@@ -27,6 +27,7 @@ impl<V> Model for Names<V> {
 
 impl<V: Copy> Names<V> {
     /// Returns a table with no names. Takes no memory.
+    #[tactic(auto, using(crate::proofs::TableLemmas::name_laws))]
     pub fn new(alloc: Global) -> Names<V>
         ensures { result ≡ [] }
     {
@@ -40,6 +41,7 @@ impl<V: Copy> Names<V> {
     /// # Errors
     ///
     /// Out of memory. The table is unchanged.
+    #[tactic(auto, using(crate::proofs::TableLemmas::name_laws))]
     pub fn insert(&mut self, name: u32, value: V) -> Result<(), OutOfMemory>
         ensures ok { OnOk result (self.new ≡ bind self.old name value) }
         ensures err { OnErr result (self.new ≡ self.old) }
@@ -51,6 +53,7 @@ impl<V: Copy> Names<V> {
     }
 
     /// Removes a name. Takes no memory.
+    #[tactic(auto, using(crate::proofs::TableLemmas::name_laws))]
     pub fn remove(&mut self, name: u32)
         ensures { self.new ≡ unbind self.old name }
     {
@@ -58,6 +61,7 @@ impl<V: Copy> Names<V> {
     }
 
     /// Returns the value of a name, if it has one.
+    #[tactic(auto, using(crate::proofs::TableLemmas::name_laws))]
     pub fn get(&self, name: u32) -> Option<V>
         ensures { result ≡ get self.now name }
     {
