@@ -3,7 +3,7 @@ use Rattle.std.proofs.Common.{◌≡◌, ℕ, ◌*◌, refl, sym, ap, ◌∙◌,
 use Rattle.std.proofs.lemmas.Option.{none-some}
 use Rattle.arena_chunks.specs.Source.{View}
 use Rattle.arena_chunks.specs.Answers.{Answer}
-use Rattle.arena_chunks.specs.Answers.Answer.{Placed, Exhausted, Refused}
+use Rattle.arena_chunks.specs.Answers.Answer.{Placed}
 use Rattle.arena_chunks.specs.BlockCalls.{PlacesBlock}
 use Rattle.arena_store.specs.declared.block.Block.{Block}
 use Rattle.arena_items.specs.Room.{MakesRoom, RoomAnswer}
@@ -11,36 +11,32 @@ use Rattle.arena_items.specs.Values.{IsHeld}
 use Rattle.arena_items.specs.declared.room.Growth.{Growth}
 use Rattle.arena_items.specs.declared.room.Growth.TheVariants.{Stays, GrowsTo, Overflows}
 use Rattle.arena_items.specs.declared.room.AllocError.{AllocError}
-use Rattle.arena_items.specs.declared.room.AllocError.TheVariants.{AllocErr, CapacityOverflow, OutOfMemory}
+use Rattle.arena_items.specs.declared.room.AllocError.TheVariants.{CapacityOverflow}
 use Rattle.arena_items.proofs.Layers.{room_refused_as}
 use Rattle.arena_clone.specs.Asks.{Ask, Follows, AsksFor, ask_by}
 use Rattle.arena_clone.specs.Asks.Ask.{Room, Table, NoBytes, Empty, TooMuch}
-use Rattle.arena_script.proofs.CostFacts.{IsPaid, still}
+use Rattle.arena_script.proofs.CostFacts.{IsPaid, still, refusal, unchanged}
 
 same_view : (a b : View) → a.memory ≡ b.memory → a.source ≡ b.source → a ≡ b
 same_view a b m s = λ i. record { memory = m i; source = s i }
 
 -- ---- One block
 
+asked_first : {X : Type 0} (old between new : View) (size align : ℕ) (f : X → Block) (e : AllocError) → new ≡ between
+    → RoomAnswer f (Err e) (PlacesBlock old between size align) → AsksFor (Room size align ∷ []) old new [] (Some e)
+asked_first old between new size align f CapacityOverflow same places = absurd places
+asked_first old between new size align f e same places = record {
+  start = old;
+  between = between;
+  answer = refusal e;
+  written = still old;
+  places = places;
+  then = (refl, refl, same);
+}
+
 pub block_asked : {X : Type 0} (old new : View) (size align : ℕ) (f : X → Block) (e : AllocError)
     → RoomAnswer f (Err e) (PlacesBlock old new size align) → AsksFor (Room size align ∷ []) old new [] (Some e)
-block_asked old new size align f (AllocErr k) places = record {
-  start = old;
-  between = new;
-  answer = Refused k;
-  written = still old;
-  places = places;
-  then = (refl, refl, refl);
-}
-block_asked old new size align f OutOfMemory places = record {
-  start = old;
-  between = new;
-  answer = Exhausted;
-  written = still old;
-  places = places;
-  then = (refl, refl, refl);
-}
-block_asked old new size align f CapacityOverflow places = absurd places
+block_asked old new size align f e places = asked_first old new new size align f e refl places
 
 -- ---- The block of a growth
 
@@ -57,31 +53,11 @@ module _ {X : Type 0} (old new : View) (block : Block) (size align : ℕ) (f : X
   pub first_asked : (growth : Growth) (e : AllocError) → MakesRoom size align old new block 0 growth f (Err e)
       → AsksFor (ask_by size align growth ∷ []) old new [] (Some e)
   first_asked Stays e made = absurd made.0
-  first_asked (GrowsTo more) (AllocErr k) made = record {
-    start = old;
-    between = made.between;
-    answer = Refused k;
-    written = still old;
-    places = made.took.placed refl;
-    then = (
-      refl,
-      refl,
-      same_view new made.between (kept ∙ sym (made.took.placed refl).1.outcome.1.memory) made.places.source,
-    );
-  }
-  first_asked (GrowsTo more) OutOfMemory made = record {
-    start = old;
-    between = made.between;
-    answer = Exhausted;
-    written = still old;
-    places = made.took.placed refl;
-    then = (
-      refl,
-      refl,
-      same_view new made.between (kept ∙ sym (ap (λ (v : View). v.memory) (made.took.placed refl).1.outcome.same)) made.places.source,
-    );
-  }
   first_asked (GrowsTo more) CapacityOverflow made = absurd made.took
+  first_asked (GrowsTo more) e made =
+      let places = made.took.placed refl in
+      asked_first old made.between new (more * size) align f e
+      (same_view new made.between (kept ∙ sym (unchanged old made.between (more * size) align f e places)) made.places.source) places
   first_asked Overflows e made = (
     (let is = made.0 in cc),
     refl,
@@ -103,21 +79,13 @@ module _ (old new : View) (blocks : List Block) (e : AllocError) where
           → Follows a takes.between new blocks (Some e) (λ rest. AsksFor [] takes.between new rest (Some e))
           → AsksFor (Room size align ∷ []) old new [] (Some e)
       by (Placed b) places (rest, is, (last, empties, same)) = absurd (none-some e (sym last))
-      by (Refused k) places (is, none, same) = record {
+      by a places then = record {
         start = takes.start;
         between = takes.between;
-        answer = Refused k;
+        answer = a;
         written = takes.written;
         places = places;
-        then = (is, refl, same);
-      }
-      by Exhausted places (is, none, same) = record {
-        start = takes.start;
-        between = takes.between;
-        answer = Exhausted;
-        written = takes.written;
-        places = places;
-        then = (is, refl, same);
+        then = (then.0, refl, then.2);
       }
 
   pub alone : (ask : Ask) → AsksFor (ask ∷ []) old new blocks (Some e) → AsksFor (ask ∷ []) old new [] (Some e)

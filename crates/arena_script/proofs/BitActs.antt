@@ -20,7 +20,7 @@ use Rattle.arena_bits.specs.Sets.{IsSetIn, set_of, AreOneOrApart, BecomesSet, Pl
 use Rattle.arena_bits.specs.declared.set.BitSet.{BitSet}
 use Rattle.script_rules.specs.Objects.{get, has, Bits, bits_end, ASet}
 use Rattle.script_rules.specs.declared.commands.Command.{Command}
-use Rattle.script_rules.specs.Effects.{Effect, Tells, Gives, unless, effect}
+use Rattle.script_rules.specs.Effects.{Effect, Tells, Gives, effect}
 use Rattle.script_rules.specs.Effects as effects
 use Rattle.script_rules.specs.declared.commands.Command.TheVariants.{MakeBits, SetBit, UnsetBit, HasBit, Union, Ones}
 use Rattle.script_rules.specs.declared.commands.ScriptReply.{ScriptReply}
@@ -61,39 +61,42 @@ module _ {things : Things} {m : Memory} {name : ℕ} {s : BitSet} (h : Holds thi
   unfolding effect
   has_told bit = rw h.found (ap (λ b. Tells (Truth b)) (has_same bit))
 
+  low : (bit : ℕ) → bit < 64 * s.words.length → nat_le end bit ≡ false
+  low bit inside = grind (arith, nat_tests, inside, h.held.held.count)
+
 -- ---- A set that becomes another
 
-module _ {things : Things} {old new : View} {name : ℕ} {s : BitSet} (h : Holds things old.memory name (thing.Bits s))
-    (small : s.capacity < 2 ^ 32) where
+module _ {things : Things} {old new : View} {name : ℕ} {s : BitSet} (h : Holds things old.memory name (thing.Bits s)) where
   becomes : {set : Set} {all : Bits} {command : Command} → bits_below (end h) set ≡ all
       → effect command (seen old.memory things) ≡ Gives name (ASet s.capacity all) Done 0 → BecomesSet old new s set
       → GivesThing command things old new name (thing.Bits s) Done
   becomes same given is = exchanged h (rw (is.set_is, same) given) (record {
-    held = record { held = is.held; small = small };
+    held = record { held = is.held; small = h.held.small };
     room = refl;
     least = omega (arith, same_used old new is.places);
     costs = nothing_given 0 _ 0 old new is.places (omega arith);
     frame = is.frame;
   })
 
-  pub set_gives : (bit : ℕ) → bit < end h → BecomesSet old new s (with_bit (here h) bit)
+  pub set_gives : (bit : ℕ) → bit < 64 * s.words.length → BecomesSet old new s (with_bit (here h) bit)
       → GivesThing (SetBit name bit) things old new name (thing.Bits s) Done
   unfolding effect
-  set_gives bit inside = becomes (bits_with (end h) (here h) bit inside)
-      (let test : nat_le (end h) bit ≡ false = grind (arith, nat_tests) in rw (h.found, test) refl)
+  set_gives bit inside = becomes (bits_with (end h) (here h) bit (omega (arith, inside, h.held.held.count)))
+      (rw (h.found, low h bit inside) refl)
 
-  pub unset_gives : (bit : ℕ) → bit < end h → BecomesSet old new s (without_bit (here h) bit)
+  pub unset_gives : (bit : ℕ) → bit < 64 * s.words.length → BecomesSet old new s (without_bit (here h) bit)
       → GivesThing (UnsetBit name bit) things old new name (thing.Bits s) Done
   unfolding effect
-  unset_gives bit inside = becomes (bits_without (end h) (here h) bit)
-      (let test : nat_le (end h) bit ≡ false = grind (arith, nat_tests) in rw (h.found, test) refl)
+  unset_gives bit inside = becomes (bits_without (end h) (here h) bit) (rw (h.found, low h bit inside) refl)
 
   pub union_gives : {other : ℕ} {t : BitSet} → Holds things old.memory other (thing.Bits t)
-      → BecomesSet old new s (joined (here h) (below (min (end h) (bits_end t.capacity)) (set_of old.memory t)))
+      → BecomesSet old new s (joined (here h) (below (64 * min s.words.length t.words.length) (set_of old.memory t)))
       → GivesThing (Union name other) things old new name (thing.Bits s) Done
   unfolding effect
-  union_gives {other} {t} there =
-      becomes (bits_joined (end h) (bits_end t.capacity) (here h) (set_of old.memory t)) (rw (h.found, there.found) refl)
+  union_gives {other} {t} there is =
+      let limit : 64 * min s.words.length t.words.length ≡ min (end h) (bits_end t.capacity)
+      = omega (arith, h.held.held.count, there.held.held.count) in
+      becomes (bits_joined (end h) (bits_end t.capacity) (here h) (set_of old.memory t)) (rw (h.found, there.found) refl) (rw limit at is)
 
 -- ---- A new set
 
@@ -163,10 +166,6 @@ one_or_apart {m} {things} {name} {other} {s} {t} are h there = by (name == other
     by true test = inl (ap (λ (o : Option Thing). option_map_or block_of o t.words.block)
         (sym there.found ∙ ap (get things) (sym (eqb-true name other test)) ∙ h.found))
     by false test = inr (rw (there.found, h.found) at (are.apart other name (λ e. other_name name other test (sym e))))
-
--- The end of the words that both have is the lower of their ends.
-pub both_limits : (a b p q : ℕ) → a ≡ p → b ≡ q → 64 * min a b ≡ min (64 * p) (64 * q)
-both_limits a b p q first second = omega (arith, first, second)
 
 -- ---- The numbers of a set
 

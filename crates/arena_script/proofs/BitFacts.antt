@@ -42,9 +42,7 @@ module _ (end : ℕ) (set : Set) where
 
   with_mark : (s t : Bool) → (if t then Some tt else mark s) ≡ mark (s || t)
   with_mark true true = refl
-  with_mark true false = refl
-  with_mark false true = refl
-  with_mark false false = refl
+  with_mark _ _ = refl
 
   -- A bit more, in both.
   pub bits_with : (bit : ℕ) → bit < end → bits_below end (with_bit set bit) ≡ bind (bits_below end set) bit tt
@@ -52,10 +50,7 @@ module _ (end : ℕ) (set : Set) where
       (λ q low. sym (with_mark (set q) (q == bit)))
 
   without_mark : (s t : Bool) → (if t then None else mark s) ≡ mark (s && not t)
-  without_mark true true = refl
-  without_mark true false = refl
-  without_mark false true = refl
-  without_mark false false = refl
+  without_mark s t = grind (arith, nat_tests)
 
   -- A bit less, in both.
   pub bits_without : (bit : ℕ) → bits_below end (without_bit set bit) ≡ unbind (bits_below end set) bit

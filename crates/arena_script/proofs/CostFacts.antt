@@ -82,6 +82,17 @@ pub not_given : {command : Command} {things : Things} {old new : View} {e : Allo
 not_given (Ok act) is gives = absurd is
 not_given {command} {things} {old} {new} (Err x) is gives = inl (subst (λ y. GivesNothing command things old new y) (sym is) gives)
 
+-- the answer of a call that is refused with this error, and what it leaves
+abbrev pub refusal : AllocError → Answer
+refusal (AllocErr k) = Refused k
+refusal e = Exhausted
+
+pub unchanged : {X : Type 0} (old new : View) (size align : ℕ) (f : X → Block) (e : AllocError)
+    → RoomAnswer f (Err e) (PlacesBlock old new size align) → new.memory ≡ old.memory
+unchanged old new size align f (AllocErr k) places = places.1.outcome.1.memory
+unchanged old new size align f OutOfMemory places = ap (λ (v : View). v.memory) places.1.outcome.same
+unchanged old new size align f CapacityOverflow places = absurd places
+
 -- ---- Room by a growth
 
 -- What a growth asks for, if anything, is paid by the cost and the credit, and so is the credit afterwards.
@@ -186,10 +197,7 @@ module _ (old between new : View) (size align : ℕ) (cost before after : ℕ) (
 
   pub block_refused : {X : Type 0} (f : X → Block) (e : AllocError) → RoomAnswer f (Err e) (PlacesBlock old between size align)
       → IsRefused cost before old new e
-  block_refused f (AllocErr k) places = grown_refused old new nowhere size align 0 f cost before after one nowhere_held small
-      (GrowsTo 1) (AllocErr k) one_paid (same.state ∙ ap (λ m. m.state) places.1.outcome.1.memory)
-      (record { between = between; took = taken (Refused k) places; places = same })
-  block_refused f OutOfMemory places = grown_refused old new nowhere size align 0 f cost before after one nowhere_held small
-      (GrowsTo 1) OutOfMemory one_paid (same.state ∙ ap (λ (v : View). v.memory.state) places.1.outcome.same)
-      (record { between = between; took = taken Exhausted places; places = same })
   block_refused f CapacityOverflow places = absurd places
+  block_refused f e places = grown_refused old new nowhere size align 0 f cost before after one nowhere_held small (GrowsTo 1) e one_paid
+      (same.state ∙ ap (λ m. m.state) (unchanged old between size align f e places))
+      (record { between = between; took = taken (refusal e) places; places = same })

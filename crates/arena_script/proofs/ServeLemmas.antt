@@ -8,7 +8,7 @@ use Rattle.arena_chunks.specs.Source.{View}
 use Rattle.arena_chunks.proofs.Layers.{blocks_turned}
 use Rattle.arena_items.specs.declared.room.AllocError.{AllocError}
 use Rattle.arena_items.specs.declared.room.AllocError.TheVariants.{OutOfMemory}
-use Rattle.script_rules.specs.Objects.{get, bind, unbind, are_rising, Object, AList, AText, ASet, AMap, AValue, Objects, AreObjects}
+use Rattle.script_rules.specs.Objects.{get, bind, unbind, are_rising, Object, AText, Objects, AreObjects}
 use Rattle.script_rules.specs.Effects.{effect}
 use Rattle.script_rules.specs.Effects as effects
 use Rattle.script_rules.specs.Machine.{Answer, settle, step}
@@ -159,11 +159,8 @@ module _ {command : Command} {things : Things} {old new : View} {name : ℕ} {t 
       ∙ ap (λ o. room_of (object_in new.memory t) o cap) (sym (get_mapped old.memory things name))
     where
       none : (object : Object) (n k : ℕ) → room_of object None n ≡ room_of object None k
-      none (AList items) n k = refl
       none (AText bytes) n k = refl
-      none (ASet capacity bits) n k = refl
-      none (AMap entries) n k = refl
-      none (AValue value) n k = refl
+      none _ n k = refl
 
       same : (o : Option Thing) → IfSome o (λ u. room_in u ≡ cap)
           → room_of (object_in new.memory t) (option_map (object_in old.memory) o) (room_held o)

@@ -45,6 +45,10 @@ joins_all : (more : List ℕ) (len : ℕ) (go : Effect) → list_any not_ascii m
 joins_all more len go low fits =
     let test : nat_lt most_bytes (len + length more) ≡ false = grind (arith, nat_tests) in rw (low, test) refl
 
+-- A text has as many bytes as its length says.
+abbrev pub HaveLengths : Type 0
+HaveLengths = (m : Memory) (t : StringBuilder) → IsBuilderIn m t → t.len ≡ length (builder_bytes m t)
+
 -- A command that adds bytes to a text, and the text after it.
 pub record Puts {things : Things} {m : Memory} {name : ℕ} {t : StringBuilder} (h : Holds things m name (thing.Text t))
     (command : Command) (more list : List ℕ) : Type 0 where
@@ -53,30 +57,41 @@ pub record Puts {things : Things} {m : Memory} {name : ℕ} {t : StringBuilder} 
   pub effect_is : effect command (seen m things)
       ≡ joins more (length (builder_bytes m t)) (Gives name (AText list) Done (4 * length more))
   pub longer : length list ≡ length (builder_bytes m t) + length more
+  pub low : list_any not_ascii more ≡ false
 
 module _ {things : Things} {m : Memory} {name : ℕ} {t : StringBuilder} (h : Holds things m name (thing.Text t)) where
-  pub front_puts : (byte : ℕ) → Puts h (Front name byte) (byte ∷ []) (byte ∷ builder_bytes m t)
+  pub front_puts : (byte : ℕ) → list_any not_ascii (byte ∷ []) ≡ false → Puts h (Front name byte) (byte ∷ []) (byte ∷ builder_bytes m t)
   unfolding effect
-  front_puts byte = record { taken = refl; asks_is = refl; effect_is = rw h.found refl; longer = omega arith }
+  front_puts byte low = record { taken = refl; asks_is = refl; effect_is = rw h.found refl; longer = omega arith; low = low }
 
-  pub append_puts : (more : List ℕ) → Puts h (Append name more) more (builder_bytes m t ++ more)
+  pub append_puts : (more : List ℕ) → list_any not_ascii more ≡ false → Puts h (Append name more) more (builder_bytes m t ++ more)
   unfolding effect
-  append_puts more = record { taken = refl; asks_is = refl; effect_is = rw h.found refl; longer = length-append (builder_bytes m t) more }
+  append_puts more low = record {
+    taken = refl;
+    asks_is = refl;
+    effect_is = rw h.found refl;
+    longer = length-append (builder_bytes m t) more;
+    low = low;
+  }
 
-  module _ {command : Command} {more list : List ℕ} (puts : Puts h command more list) (low : list_any not_ascii more ≡ false)
-      (counted : t.len ≡ length (builder_bytes m t)) where
+  module _ (lengths : HaveLengths) {command : Command} {more list : List ℕ} (puts : Puts h command more list) where
+    counted : t.len ≡ length (builder_bytes m t)
+    counted = lengths m t h.held.held
+
     pub put_past : most_bytes < t.len + length more → effect command (seen m things) ≡ Tells CapacityOverflow
-    put_past past = puts.effect_is ∙ joins_past more _ _ low (omega (arith, counted))
+    put_past past = puts.effect_is ∙ joins_past more _ _ puts.low (omega (arith, counted))
 
-    pub put_given : t.len + length more ≤ most_bytes → effect command (seen m things) ≡ Gives name (AText list) Done (4 * length more)
-    put_given fits = puts.effect_is ∙ joins_all more _ _ low (omega (arith, counted))
+    put_given : t.len + length more ≤ most_bytes → effect command (seen m things) ≡ Gives name (AText list) Done (4 * length more)
+    put_given fits = puts.effect_is ∙ joins_all more _ _ puts.low (omega (arith, counted))
 
 -- ---- What the arena does
 
-module _ (rule : GrowthRule) (old new : View) (u : StringBuilder) {things : Things} {name : ℕ} {t : StringBuilder}
+module _ (rule : GrowthRule) (lengths : HaveLengths) (old new : View) (u : StringBuilder) {things : Things} {name : ℕ} {t : StringBuilder}
     (h : Holds things old.memory name (thing.Text t)) (one : old.memory.state.min_align ≡ 1) {command : Command} {more list : List ℕ}
-    (puts : Puts h command more list) (low : list_any not_ascii more ≡ false)
-    (counted : t.len ≡ length (builder_bytes old.memory t)) (fits : t.len + length more ≤ most_bytes) where
+    (puts : Puts h command more list) (fits : t.len + length more ≤ most_bytes) where
+  has : t.len ≡ length (builder_bytes old.memory t)
+  has = lengths old.memory t h.held.held
+
   abbrev n : ℕ
   n = length more
 
@@ -94,16 +109,16 @@ module _ (rule : GrowthRule) (old new : View) (u : StringBuilder) {things : Thin
 
   capacity_is : (bytes : List ℕ) → n ≡ length bytes - length (builder_bytes old.memory t)
       → capacity_after change t.cap ≡ text_room bytes (Some (AText (builder_bytes old.memory t))) t.cap
-  capacity_is bytes added = λ i. capacity_after (amortised_growth t.cap (counted i) (added i)) t.cap
+  capacity_is bytes added = λ i. capacity_after (amortised_growth t.cap (has i) (added i)) t.cap
 
   pub put_gives : Grows old new t change list u (Ok tt) → GivesThing command things old new name (thing.Text u) Done
   put_gives grows =
       let place = text_place rule t n h.held small in
-      let longer : length list ≡ t.len + n = omega (arith, puts.longer, counted) in
-      exchanged {cost = 4 * n} h (rw grows.bytes_are (put_given h puts low counted fits)) (record {
+      let longer : length list ≡ t.len + n = omega (arith, puts.longer, has) in
+      exchanged {cost = 4 * n} h (rw grows.bytes_are (put_given h lengths puts fits)) (record {
         held = record { held = grows.held; room = rw (grows.cap, grows.len, longer) paid.1 };
         room = grows.cap ∙ capacity_is (builder_bytes new.memory u)
-            (omega (arith, ap (λ (bytes : List ℕ). length bytes) grows.bytes_are, longer, counted));
+            (omega (arith, ap (λ (bytes : List ℕ). length bytes) grows.bytes_are, longer, has));
         least = grown_least old new t.block 1 1 t.cap (λ (x : Unit {0}). u.block) (4 * n) (credit_of (thing.Text t)) credit one place
             (omega arith) change tt paid.0 (omega (arith, grows.held.place.of_size, grows.cap)) grows.made;
         costs = rw (grows.cap, grows.len, longer) (grown_costs old new t.block 1 1 t.cap (λ (x : Unit {0}). u.block) (4 * n)
@@ -112,7 +127,7 @@ module _ (rule : GrowthRule) (old new : View) (u : StringBuilder) {things : Thin
       })
 
   pub put_gives_nothing : {e : AllocError} → Grows old new t change list u (Err e) → GivesNothing command things old new e
-  put_gives_nothing {e} grows = kept h.found puts.taken (put_given h puts low counted fits)
+  put_gives_nothing {e} grows = kept h.found puts.taken (put_given h lengths puts fits)
       (rw (puts.asks_is, h.found) (growth_asked old new t.block 1 1 (λ (x : Unit {0}). u.block) grows.err.1 t.cap (4 * n)
       (credit_of (thing.Text t)) credit change e one (text_place rule t n h.held small) paid.0 grows.made))
       (grown_refused old new t.block 1 1 t.cap
@@ -125,7 +140,6 @@ module _ (rule : GrowthRule) (old new : View) (u : StringBuilder) {things : Thin
 pub byte_acts : (name byte : ℕ) (things : Things) (old new : View) (result : Result Act AllocError)
     → Acts (Append name (byte ∷ [])) things old new result → Acts (Byte name byte) things old new result
 unfolding effect
-byte_acts name byte things old new (Ok (act.Tells reply)) acts = acts
 byte_acts name byte things old new (Ok (act.Gives given thing reply)) acts = record {
   cost = acts.cost;
   effect_is = acts.effect_is;
@@ -136,7 +150,7 @@ byte_acts name byte things old new (Ok (act.Gives given thing reply)) acts = rec
   costs = acts.costs;
   frame = acts.frame;
 }
-byte_acts name byte things old new (Ok (act.LetsGo gone)) acts = acts
+byte_acts name byte things old new (Ok told) acts = acts
 byte_acts name byte things old new (Err e) (inl acts) = inl (record {
   name = acts.name;
   object = acts.object;

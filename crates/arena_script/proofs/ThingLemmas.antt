@@ -31,19 +31,13 @@ texts_apart (p ∷ ps) others = (apart_empty 1 0 others refl, texts_apart ps oth
 -- so a thing's blocks are apart where its own is
 all_apart : (m : Memory) (t : Thing) (others : List Block) → IsApart (block_of t).addr (block_of t).size others
     → AreAllApart (blocks_in m t) others
-all_apart m (thing.List v) others apart = (apart, tt)
-all_apart m (thing.Text t) others apart = (apart, tt)
-all_apart m (thing.Bits s) others apart = (apart, tt)
 all_apart m (thing.Map h) others apart = (apart, texts_apart _ others)
-all_apart m (thing.Value b) others apart = (apart, tt)
+all_apart m _ others apart = (apart, tt)
 
 own_apart : (m : Memory) (t : Thing) (others : List Block) → AreAllApart (blocks_in m t) others
     → IsApart (block_of t).addr (block_of t).size others
-own_apart m (thing.List v) others all = all.0
-own_apart m (thing.Text t) others all = all.0
-own_apart m (thing.Bits s) others all = all.0
 own_apart m (thing.Map h) others all = all.0
-own_apart m (thing.Value b) others all = all.0
+own_apart m _ others all = all.0
 
 -- After a call on other blocks a thing is unchanged, and apart from the blocks that the call then has.
 pub record StaysThing (old new : Memory) (after : List Block) (t : Thing) : Type 0 where
@@ -112,8 +106,8 @@ pub record Holds (things : Things) (m : Memory) (name : ℕ) (t : Thing) : Type 
   pub held : IsThingIn m t
   pub is : IsObject (object_in m t)
 
-pub holds : {m : Memory} {things : Things} → AreThings m things → (name : ℕ) (t : Thing) → get things name ≡ Some t → Holds things m name t
-holds {m} {things} are name t found = record {
+pub holds : {m : Memory} {things : Things} {t : Thing} → AreThings m things → (name : ℕ) → get things name ≡ Some t → Holds things m name t
+holds {m} {things} {t} are name found = record {
   found = found;
   held = subst (λ o. IfSome o (IsThingIn m)) found (are.held name);
   is = get_among IsObject (objects_in m things) name (object_in m t) are.objects.each

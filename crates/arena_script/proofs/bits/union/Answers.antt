@@ -1,7 +1,6 @@
 use Rattle.std.proofs.Common.{◌∙◌, sym, refl}
+use Rattle.arena_script.proofs.BitActs.{first_wrong, second_wrong, one_or_apart, union_gives}
 use Rattle.arena_script.proofs.ThingLemmas.{holds}
-use Rattle.arena_script.proofs.BitActs.{first_wrong, second_wrong, one_or_apart, union_gives, both_limits}
-use Rattle.arena_script.specs.declared.thing.Thing.TheVariants as thing
 use Rattle.arena_script.proofs.bits.union.Goals as goal
 
 pub returns-in-Err : goal.returns-in-Err
@@ -12,21 +11,12 @@ returns-in-Err g c = (
 )
 
 pub returns-in-Err-set_of : goal.returns-in-Err-set_of
-returns-in-Err-set_of g c = (
-  second_wrong (holds c.requires c.args.name (thing.Bits c.in-Ok.set) c.in-Ok.ensures) c.args.other
-      c.in-Err-set_of.ensures,
-  refl,
-)
+returns-in-Err-set_of g c = (second_wrong (holds c.requires c.args.name c.in-Ok.ensures) c.args.other c.in-Err-set_of.ensures, refl)
 
 pub union-requires-clause-apart : goal.union-requires-clause-apart
-union-requires-clause-apart g c = one_or_apart c.requires (holds c.requires c.args.name (thing.Bits c.in-Ok.set) c.in-Ok.ensures)
-    (holds c.requires c.args.other (thing.Bits c.in-Ok-set_of.more) c.in-Ok-set_of.ensures)
+union-requires-clause-apart g c =
+    one_or_apart c.requires (holds c.requires c.args.name c.in-Ok.ensures) (holds c.requires c.args.other c.in-Ok-set_of.ensures)
 
 pub returns : goal.returns
-returns g c =
-    let h = holds c.requires c.args.name (thing.Bits c.in-Ok.set) c.in-Ok.ensures in
-    let there = holds c.requires c.args.other (thing.Bits c.in-Ok-set_of.more) c.in-Ok-set_of.ensures in
-    rw c.union.ensures.handle
-    (union_gives h h.held.small there
-    (rw (both_limits c.in-Ok.set.words.length c.in-Ok-set_of.more.words.length _ _ h.held.held.count there.held.held.count)
-    at c.union.ensures.becomes))
+returns g c = rw c.union.ensures.handle
+    (union_gives (holds c.requires c.args.name c.in-Ok.ensures) (holds c.requires c.args.other c.in-Ok-set_of.ensures) c.union.ensures.becomes)

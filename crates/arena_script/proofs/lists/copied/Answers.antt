@@ -1,18 +1,13 @@
-use Rattle.arena_script.proofs.ThingLemmas.{holds}
 use Rattle.arena_script.proofs.CopyActs.{list_copy_gives, list_copy_gives_nothing}
 use Rattle.arena_script.proofs.CostFacts.{not_given}
-use Rattle.arena_script.specs.declared.thing.Thing.TheVariants as thing
+use Rattle.arena_script.proofs.ThingLemmas.{holds}
 use Rattle.arena_script.proofs.lists.copied.Goals as goal
 
 pub returns-in_err-copy : goal.returns-in_err-copy
-returns-in_err-copy g c =
-    let h = holds c.requires.things c.args.name (thing.List c.args.list) c.requires.found in
-    not_given c.from_residual.result c.from_residual.ensures.1
-    (list_copy_gives_nothing (record { stays = c.growth_rule.ensures.stays; grows = c.growth_rule.ensures.grows }) _ _ _ h c.requires.none
-    c.known.ensures.state c.in_err-copy.ensures.makes)
+returns-in_err-copy g c = not_given c.from_residual.result c.from_residual.ensures.1
+    (list_copy_gives_nothing (record { stays = c.growth_rule.ensures.stays; grows = c.growth_rule.ensures.grows }) _ _ _
+    (holds c.requires.things c.args.name c.requires.found) c.requires.none c.known.ensures.state c.in_err-copy.ensures.makes)
 
 pub returns : goal.returns
-returns g c =
-    let h = holds c.requires.things c.args.name (thing.List c.args.list) c.requires.found in
-    list_copy_gives (record { stays = c.growth_rule.ensures.stays; grows = c.growth_rule.ensures.grows }) _ _ _ h c.requires.none
-    c.known.ensures.state c.in_ok-copy.ensures.makes
+returns g c = list_copy_gives (record { stays = c.growth_rule.ensures.stays; grows = c.growth_rule.ensures.grows }) _ _ _
+    (holds c.requires.things c.args.name c.requires.found) c.requires.none c.known.ensures.state c.in_ok-copy.ensures.makes

@@ -2,26 +2,18 @@ use Rattle.std.proofs.Common.{arith, refl}
 use Rattle.arena_script.proofs.ListActs.{insert_past, insert_full, insert_grows, list_gives, list_gives_nothing}
 use Rattle.arena_script.proofs.CostFacts.{not_given}
 use Rattle.arena_script.proofs.ThingLemmas.{holds}
-use Rattle.arena_script.specs.declared.thing.Thing.TheVariants as thing
 use Rattle.arena_script.proofs.lists.insert.Goals as goal
 
 pub returns-then-at-len : goal.returns-then-at-len
-returns-then-at-len g c = (
-  insert_past (holds c.requires c.args.name (thing.List c.in-Ok.list) c.in-Ok.ensures) c.args.at c.args.value
-      (omega (arith, c.len.ensures)),
-  refl,
-)
+returns-then-at-len g c = (insert_past (holds c.requires c.args.name c.in-Ok.ensures) c.args.at c.args.value (omega (arith, c.len.ensures)), refl)
 
 pub returns-then-len-ge-MOST_ITEMS : goal.returns-then-len-ge-MOST_ITEMS
-returns-then-len-ge-MOST_ITEMS g c = (
-  insert_full (holds c.requires c.args.name (thing.List c.in-Ok.list) c.in-Ok.ensures) c.args.at
-      c.args.value (omega (arith, c.len.ensures)) (omega (arith, c.len-2.ensures)),
-  refl,
-)
+returns-then-len-ge-MOST_ITEMS g c =
+    (insert_full (holds c.requires c.args.name c.in-Ok.ensures) c.args.at c.args.value (omega (arith, c.len.ensures)) (omega (arith, c.len-2.ensures)), refl)
 
 pub returns-in_err-insert : goal.returns-in_err-insert
 returns-in_err-insert g c =
-    let h = holds c.requires c.args.name (thing.List c.in-Ok.list) c.in-Ok.ensures in
+    let h = holds c.requires c.args.name c.in-Ok.ensures in
     not_given c.from_residual.result c.from_residual.ensures.1
     (list_gives_nothing (record { stays = c.growth_rule.ensures.stays; grows = c.growth_rule.ensures.grows })
     (record { keeps = c.growth_costs.ensures.keeps; asks = c.growth_costs.ensures.asks }) _ _ _ h c.known.ensures.state
@@ -29,7 +21,7 @@ returns-in_err-insert g c =
 
 pub returns : goal.returns
 returns g c =
-    let h = holds c.requires c.args.name (thing.List c.in-Ok.list) c.in-Ok.ensures in
+    let h = holds c.requires c.args.name c.in-Ok.ensures in
     list_gives (record { stays = c.growth_rule.ensures.stays; grows = c.growth_rule.ensures.grows })
     (record { keeps = c.growth_costs.ensures.keeps; asks = c.growth_costs.ensures.asks }) _ _ _ h c.known.ensures.state
     (insert_grows h c.args.at c.args.value (omega (arith, c.len.ensures)) (omega (arith, c.len-2.ensures))) c.in_ok-insert.ensures

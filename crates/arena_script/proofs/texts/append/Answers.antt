@@ -2,30 +2,24 @@ use Rattle.std.proofs.Common.{arith, refl, sym, ◌∙◌}
 use Rattle.arena_script.proofs.ThingLemmas.{holds}
 use Rattle.arena_script.proofs.CostFacts.{not_given}
 use Rattle.arena_script.proofs.TextActs.{append_puts, put_past, put_gives, put_gives_nothing}
-use Rattle.arena_script.specs.declared.thing.Thing.TheVariants as thing
 use Rattle.arena_script.proofs.texts.append.Goals as goal
 
 pub returns-then-saturating_add-gt-MOST_BYTES : goal.returns-then-saturating_add-gt-MOST_BYTES
 returns-then-saturating_add-gt-MOST_BYTES g c =
-    let h = holds c.requires c.args.name (thing.Text c.in-Ok.text) c.in-Ok.ensures in (
-      put_past h (append_puts h c.args.bytes.now) (sym c.has_other.ensures ∙ c.if-has_other.false)
-          (c.length_rule.ensures c.args.a.now.memory c.in-Ok.text h.held.held) (omega (arith, c.len.ensures, c.saturating_add.ensures)),
-      refl,
-    )
+    let h = holds c.requires c.args.name c.in-Ok.ensures in
+    (put_past h c.length_rule.ensures (append_puts h c.args.bytes.now (sym c.has_other.ensures ∙ c.if-has_other.false)) (omega (arith, c.len.ensures, c.saturating_add.ensures)), refl)
 
 pub returns-in_err-push_bytes_unchecked : goal.returns-in_err-push_bytes_unchecked
 returns-in_err-push_bytes_unchecked g c =
-    let h = holds c.requires c.args.name (thing.Text c.in-Ok.text) c.in-Ok.ensures in
+    let h = holds c.requires c.args.name c.in-Ok.ensures in
     not_given c.from_residual.result c.from_residual.ensures.1
-    (put_gives_nothing (record { stays = c.growth_rule.ensures.stays; grows = c.growth_rule.ensures.grows }) _ _ _ h
-    c.known.ensures.state (append_puts h c.args.bytes.now) (sym c.has_other.ensures ∙ c.if-has_other.false)
-    (c.length_rule.ensures c.args.a.now.memory c.in-Ok.text h.held.held)
-    (omega (arith, c.len.ensures, c.saturating_add.ensures)) c.in_err-push_bytes_unchecked.ensures)
+    (put_gives_nothing (record { stays = c.growth_rule.ensures.stays; grows = c.growth_rule.ensures.grows }) c.length_rule.ensures _ _ _ h
+    c.known.ensures.state (append_puts h c.args.bytes.now (sym c.has_other.ensures ∙ c.if-has_other.false)) (omega (arith, c.len.ensures, c.saturating_add.ensures))
+    c.in_err-push_bytes_unchecked.ensures)
 
 pub returns : goal.returns
 returns g c =
-    let h = holds c.requires c.args.name (thing.Text c.in-Ok.text) c.in-Ok.ensures in
-    put_gives (record { stays = c.growth_rule.ensures.stays; grows = c.growth_rule.ensures.grows }) _ _ _ h
-    c.known.ensures.state (append_puts h c.args.bytes.now) (sym c.has_other.ensures ∙ c.if-has_other.false)
-    (c.length_rule.ensures c.args.a.now.memory c.in-Ok.text h.held.held)
-    (omega (arith, c.len.ensures, c.saturating_add.ensures)) c.in_ok-push_bytes_unchecked.ensures
+    let h = holds c.requires c.args.name c.in-Ok.ensures in
+    put_gives (record { stays = c.growth_rule.ensures.stays; grows = c.growth_rule.ensures.grows }) c.length_rule.ensures _ _ _ h
+    c.known.ensures.state (append_puts h c.args.bytes.now (sym c.has_other.ensures ∙ c.if-has_other.false)) (omega (arith, c.len.ensures, c.saturating_add.ensures))
+    c.in_ok-push_bytes_unchecked.ensures

@@ -1,18 +1,14 @@
 use Rattle.std.proofs.Common.{refl, sym, ap, ◌∙◌, Some}
 use Rattle.arena_script.proofs.ThingLemmas.{holds}
 use Rattle.arena_script.proofs.WholeActs.{list_len, text_len}
-use Rattle.arena_script.specs.declared.thing.Thing.TheVariants as thing
 use Rattle.arena_script.proofs.whole.len.Goals as goal
 
 pub returns-in-Some-List : goal.returns-in-Some-List
 returns-in-Some-List g c =
     let found = sym c.get.ensures ∙ c.in-Some-List.is ∙ ap Some c.in-Some-List.field-0-is in
-    (rw c.len.ensures (list_len (holds c.requires c.args.name (thing.List c.in-Some-List.list) found)), refl)
+    (rw c.len.ensures (list_len (holds c.requires c.args.name found)), refl)
 
 pub returns-in-Some-Text : goal.returns-in-Some-Text
 returns-in-Some-Text g c =
-    let found = sym c.get.ensures ∙ c.in-Some-Text.is ∙ ap Some c.in-Some-Text.field-0-is in
-    let h = holds c.requires c.args.name (thing.Text c.in-Some-Text.text) found in (
-      rw c.len-in-Some-Text.ensures (text_len h (c.length_rule.ensures c.args._a.now.memory c.in-Some-Text.text h.held.held)),
-      refl,
-    )
+    let h = holds c.requires c.args.name (sym c.get.ensures ∙ c.in-Some-Text.is ∙ ap Some c.in-Some-Text.field-0-is) in
+    (rw c.len-in-Some-Text.ensures (text_len h (c.length_rule.ensures c.args._a.now.memory c.in-Some-Text.text h.held.held)), refl)
