@@ -165,35 +165,10 @@ outer_long (scope ∷ outer) some = omega (arith, some)
 module _ {X Y : Type 0} {old new : View} {n m : Names} {name : List ℕ} where
   -- The value of a successful result doesn't matter.
   pub within_ok : {x : X} (y : Y) → DeclaresWithin old new n m name (Ok x) → DeclaresWithin old new n m name (Ok y)
-  within_ok y within =
-      record {
-        overflows = (λ no. absurd (cc), λ full. let no = within.overflows.1 full in absurd (cc));
-        denied = λ k no. absurd (cc);
-        spends = record {
-          costs = record {
-            takes = within.spends.costs.takes;
-            asks = within.spends.costs.asks;
-            starved = λ growing k no. absurd (cc);
-            full = λ still k no. absurd (cc);
-          };
-          told = λ k no. absurd (cc);
-        };
-      }
+  within_ok y within = grind (arith, within)
 
   pub within_err : {e : AllocError} → DeclaresWithin {X = X} old new n m name (Err e) → DeclaresWithin {X = Y} old new n m name (Err e)
-  within_err within = record {
-    overflows = (λ is. within.overflows.0 (cc), λ full. let is = within.overflows.1 full in cc);
-    denied = λ k is. within.denied k (cc);
-    spends = record {
-      costs = record {
-        takes = within.spends.costs.takes;
-        asks = within.spends.costs.asks;
-        starved = λ growing k is. within.spends.costs.starved growing k (cc);
-        full = λ still k is. within.spends.costs.full still k (cc);
-      };
-      told = λ k is. within.spends.told k (cc);
-    };
-  }
+  within_err within = grind (arith, within)
 
 full_as : (name : List ℕ) {texts others now later : List (List ℕ)} {scopes maps : List (List (ℕ × ℕ))} → others ≡ texts → later ≡ now
     → maps ≡ scopes → IsFullFor texts now scopes name → IsFullFor others later maps name

@@ -23,7 +23,7 @@ pub fn numbers_law()
 
 /// A scoped table has at least one map. After a pair is put into the innermost map, its id has that value, and every
 /// other id has the value that it had.
-#[tactic(auto, using(crate::proofs::ScopeLemmas::lookup_put))]
+#[tactic(auto, using(crate::proofs::ScopeLemmas::lookup_put, crate::proofs::TableLemmas::depth_is))]
 pub fn scopes_law()
     ensures some { (memory : Memory) (s : Scopes) → IsTableIn entry_item memory s
         → 0 < length (scopes_in entry_item memory s) }

@@ -117,6 +117,7 @@ impl Names {
     }
 
     // Declares a name in an empty scope, and returns its value there.
+    #[tactic(auto, using(crate::proofs::NamedLemmas::within_ok))]
     fn declared<C: ChunkSource>(
         &mut self,
         a: &mut Allocator<C>,
