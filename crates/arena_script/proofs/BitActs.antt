@@ -3,7 +3,6 @@ use Rattle.std.proofs.Common.{◌≡◌, ℕ, zero, suc, cond, ◌+◌, ◌-◌,
 use Rattle.std.specs.Prelude.{nat_le, nat_lt, ◌==◌}
 use Rattle.std.specs.List.{filter, range_with_len}
 use Rattle.std.specs.Option.{option_map_or}
-use Rattle.std.proofs.lemmas.Bool.{cases_lt}
 use Rattle.std.proofs.lemmas.Bool.Decides.{nat_tests}
 use Rattle.arena_rules.specs.Bits.{Set, nothing, with_bit, without_bit, joined, below, members, words_for}
 use Rattle.arena_rules.specs.Rounding.{is_layout}
@@ -22,9 +21,9 @@ use Rattle.script_rules.specs.Objects.{get, has, Bits, bits_end, ASet}
 use Rattle.script_rules.specs.declared.commands.Command.{Command}
 use Rattle.script_rules.specs.Effects.{Effect, Tells, Gives, effect}
 use Rattle.script_rules.specs.Effects as effects
-use Rattle.script_rules.specs.declared.commands.Command.TheVariants.{MakeBits, SetBit, UnsetBit, HasBit, Union, Ones}
+use Rattle.script_rules.specs.declared.commands.Command.TheVariants.{MakeBits, SetBit, UnsetBit, Union, Ones}
 use Rattle.script_rules.specs.declared.commands.ScriptReply.{ScriptReply}
-use Rattle.script_rules.specs.declared.commands.ScriptReply.TheVariants.{Done, Truth, Numbers}
+use Rattle.script_rules.specs.declared.commands.ScriptReply.TheVariants.{Done, Numbers}
 use Rattle.arena_script.specs.Things.{Things, object_in, seen, bits_below, AreThings, block_of}
 use Rattle.arena_script.specs.declared.thing.Thing.{Thing}
 use Rattle.arena_script.specs.Wants.{takes_room}
@@ -48,18 +47,6 @@ module _ {things : Things} {m : Memory} {name : ℕ} {s : BitSet} (h : Holds thi
 
   abbrev bits : Bits
   bits = bits_below end here
-
-  -- Below the capacity the entries have the bits of the set.
-  has_same : (bit : ℕ) → below s.capacity (has bits) bit ≡ below s.capacity here bit
-  has_same bit = elim (cases_lt bit s.capacity) [
-    | inl low ↦ (let t : nat_lt bit end ≡ true = grind (arith, nat_tests) in
-        ap (λ b. nat_lt bit s.capacity && b) (has_below end here bit) ∙ ap (λ b. nat_lt bit s.capacity && (b && here bit)) t)
-    | inr high ↦ (let t : nat_lt bit s.capacity ≡ false = grind (arith, nat_tests) in rw t refl)
-  ]
-
-  pub has_told : (bit : ℕ) → effect (HasBit name bit) (seen m things) ≡ Tells (Truth (nat_lt bit s.capacity && here bit))
-  unfolding effect
-  has_told bit = rw h.found (ap (λ b. Tells (Truth b)) (has_same bit))
 
   low : (bit : ℕ) → bit < 64 * s.words.length → nat_le end bit ≡ false
   low bit inside = grind (arith, nat_tests, inside, h.held.held.count)

@@ -96,3 +96,6 @@ module _ (end other_end : ℕ) (set other : Set) where
 -- No bits.
 pub bits_none : (end : ℕ) → bits_below end nothing ≡ []
 bits_none end = entries_are (λ n. mark false) end [] refl (λ q low. refl) (λ q high. refl)
+
+-- for automatic proof of whether a set has a bit
+pub ruleset bit_told = (has_below, nat_tests)

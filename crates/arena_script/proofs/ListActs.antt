@@ -1,9 +1,9 @@
 -- What commands on lists do.
-use Rattle.std.proofs.Common.{◌≡◌, refl, ap, ◌∙◌, IsTrue, ℕ, ◌+◌, ◌-◌, ◌*◌, ◌<◌, ◌≤◌, arith, true, false, Ok, Err, Option, Some, List, [], ◌∷◌, ◌++◌, length, take, set, length-append, length-take, length-set, slice_get}
+use Rattle.std.proofs.Common.{◌≡◌, refl, ap, ◌∙◌, IsTrue, ℕ, ◌+◌, ◌-◌, ◌*◌, ◌<◌, ◌≤◌, arith, false, Ok, Err, Option, Some, List, [], ◌∷◌, ◌++◌, length, take, set, length-append, length-take, length-set, slice_get}
 use Rattle.std.specs.Prelude.{nat_lt, nat_le}
 use Rattle.std.specs.List.{insert, remove}
 use Rattle.std.proofs.lemmas.Bool.Decides.{nat_tests}
-use Rattle.std.proofs.lemmas.Option.{slice_get_past, slice_get-get_or}
+use Rattle.std.proofs.lemmas.Option.{slice_get-get_or}
 use Rattle.std.proofs.lemmas.List.Edits.{length-insert, length-remove}
 use Rattle.arena_chunks.specs.Memory.{Memory}
 use Rattle.arena_chunks.specs.Source.{View}
@@ -17,11 +17,11 @@ use Rattle.arena_vec.specs.Growth.{amortised_growth}
 use Rattle.arena_vec.specs.Vecs.{vec_list}
 use Rattle.arena_vec.specs.declared.vec.Vec.{Vec}
 use Rattle.script_rules.specs.Objects.{get, AList, most_items}
-use Rattle.script_rules.specs.Effects.{Tells, Gives, number_or_nothing, effect}
+use Rattle.script_rules.specs.Effects.{Gives, number_or_nothing, effect}
 use Rattle.script_rules.specs.declared.commands.Command.{Command}
-use Rattle.script_rules.specs.declared.commands.Command.TheVariants.{Push, Insert, Pop, Remove, At, Put, Truncate}
+use Rattle.script_rules.specs.declared.commands.Command.TheVariants.{Push, Insert, Pop, Remove, Put, Truncate}
 use Rattle.script_rules.specs.declared.commands.ScriptReply.{ScriptReply}
-use Rattle.script_rules.specs.declared.commands.ScriptReply.TheVariants.{Done, Number, OutOfRange, CapacityOverflow}
+use Rattle.script_rules.specs.declared.commands.ScriptReply.TheVariants.{Done, Number}
 use Rattle.arena_script.specs.Kinds.{short}
 use Rattle.arena_script.specs.Things.{Things, seen, credit_of}
 use Rattle.arena_script.specs.Wants.{takes_room}
@@ -41,36 +41,8 @@ module _ {things : Things} {m : Memory} {name : ℕ} {v : Vec ℕ} (h : Holds th
   counted : length items ≡ v.raw.len
   counted = length-elements 4 short.decoded v.raw.len _
 
-  -- ---- What the plain machine refuses, and what it reports
-
-  pub push_full : (value : ℕ) → most_items ≤ v.raw.len → effect (Push name value) (seen m things) ≡ Tells CapacityOverflow
-  unfolding effect
-  push_full value full = let test : nat_le most_items (length items) ≡ true = grind (arith, nat_tests, counted) in rw (h.found, test) refl
-
-  pub insert_past : (at value : ℕ) → v.raw.len < at → effect (Insert name at value) (seen m things) ≡ Tells OutOfRange
-  unfolding effect
-  insert_past at value past = let test : nat_lt (length items) at ≡ true = grind (arith, nat_tests, counted) in rw (h.found, test) refl
-
   inside_told : (at : ℕ) → at ≤ v.raw.len → nat_lt (length items) at ≡ false
   inside_told at inside = grind (arith, nat_tests, counted)
-
-  pub insert_full : (at value : ℕ) → at ≤ v.raw.len → most_items ≤ v.raw.len
-      → effect (Insert name at value) (seen m things) ≡ Tells CapacityOverflow
-  unfolding effect
-  insert_full at value inside full = let test : nat_le most_items (length items) ≡ true = grind (arith, nat_tests, counted) in
-      rw (h.found, inside_told at inside, test) refl
-
-  pub remove_past : (at : ℕ) → v.raw.len ≤ at → effect (Remove name at) (seen m things) ≡ Tells OutOfRange
-  unfolding effect
-  remove_past at past = rw (h.found, slice_get_past items at (omega (arith, counted))) refl
-
-  pub at_past : (at : ℕ) → v.raw.len ≤ at → effect (At name at) (seen m things) ≡ Tells OutOfRange
-  unfolding effect
-  at_past at past = rw (h.found, slice_get_past items at (omega (arith, counted))) refl
-
-  pub put_past : (at value : ℕ) → v.raw.len ≤ at → effect (Put name at value) (seen m things) ≡ Tells OutOfRange
-  unfolding effect
-  put_past at value past = rw (h.found, slice_get_past items at (omega (arith, counted))) refl
 
   -- ---- A list that grows by one
 

@@ -1,10 +1,12 @@
 -- Lists in an arena: how their growth is paid.
 use Rattle.std.proofs.Common.{◌≡◌, ℕ, ◌+◌, ◌*◌, ◌^◌, ◌<◌, ◌≤◌, arith, inl, inr}
 use Rattle.std.proofs.lemmas.Bool.{cases_lt}
+use Rattle.std.proofs.lemmas.Bool.Decides.{nat_tests}
+use Rattle.std.proofs.lemmas.Option.{slice_get_past}
 use Rattle.arena_items.specs.LayoutLaws.{plain_4}
 use Rattle.arena_items.specs.Room.{capacity_after}
 use Rattle.arena_items.specs.declared.room.Growth.TheVariants.{Stays, GrowsTo}
-use Rattle.arena_items.proofs.Layers.{row_is_layout, zero_or_more}
+use Rattle.arena_items.proofs.Layers.{length-elements, row_is_layout, zero_or_more}
 use Rattle.arena_vec.specs.Credit.{asked_by, credit_of}
 use Rattle.arena_vec.specs.Growth.{amortised, amortised_growth, growth_to, new_growth}
 use Rattle.arena_script.proofs.CostFacts.{IsPaid}
@@ -52,3 +54,6 @@ all_paid rule len few = elim (zero_or_more len) [
   | inr some ↦ rw (rule.grows 4 0 len len some (omega (arith, few)) (omega (arith, few)))
       (omega arith, row_is_layout len 4 4 plain_4 (omega (arith, few)) (omega arith), omega (arith, few), omega arith)
 ]
+
+-- for automatic proof of what commands report
+pub ruleset told = (slice_get_past, length-elements, nat_tests)

@@ -23,7 +23,7 @@ use Rattle.arena_chunks.specs.Frame.{Frame}
 use Rattle.hash_ring.specs.declared.hasher.FxHasher.{FxHasher}
 use Rattle.script_rules.specs.Objects.{Entries, get, bind, unbind, AMap, most_pairs}
 use Rattle.script_rules.specs.Effects.{Tells, Gives, binds, number_or_nothing, effect}
-use Rattle.script_rules.specs.declared.commands.Command.TheVariants.{MakeMap, Bind, Find, Unbind}
+use Rattle.script_rules.specs.declared.commands.Command.TheVariants.{MakeMap, Bind, Unbind}
 use Rattle.script_rules.specs.declared.commands.ScriptReply.TheVariants.{Done, CapacityOverflow as Overflow}
 use Rattle.script_rules.proofs.EntryLemmas.{length_bind, length_unbind}
 use Rattle.arena_script.specs.Kinds.{pairs}
@@ -58,11 +58,6 @@ module _ {things : Things} {m : Memory} {name : ℕ} {h : HashMap ℕ ℕ FxHash
 
   abbrev es : Entries ℕ
   es = pairs_of is
-
-  pub find_told : (key : ℕ) → key < 2 ^ 32
-      → effect (Find name key) (seen m things) ≡ Tells (number_or_nothing (value_of (is (content key))))
-  unfolding effect
-  find_told key small = rw (holds.found, get_pair is key small) refl
 
   pub unbind_given : (key : ℕ) → key < 2 ^ 32
       → effect (Unbind name key) (seen m things) ≡ Gives name (AMap (unbind es key)) (number_or_nothing (value_of (is (content key)))) 0

@@ -1,5 +1,5 @@
 // Commands on sets of numbers.
-#![tactic(auto, unfolding(script_rules::specs::Effects::effect))]
+#![tactic(auto, using(crate::proofs::BitFacts::bit_told), unfolding(script_rules::specs::Effects::effect))]
 
 ghost use Rattle.std.specs.Prelude.{◌≡◌, ◌*◌, ◌<◌, ◌≤◌, Ok, Some, None, false, IsTrue, length, IfOk, IfErr};
 ghost use Rattle.arena_bits.specs.Bits.{members};

@@ -1,5 +1,5 @@
 // Commands on lists.
-#![tactic(auto, unfolding(script_rules::specs::Effects::effect))]
+#![tactic(auto, using(crate::proofs::ListLemmas::told), unfolding(script_rules::specs::Effects::effect))]
 
 ghost use Rattle.std.specs.Prelude.{◌≡◌, Ok, Some, None, IfOk, IfErr};
 ghost use Rattle.script_rules.specs.Objects.{get};

@@ -1,5 +1,5 @@
 // Commands on maps.
-#![tactic(auto, unfolding(script_rules::specs::Effects::effect))]
+#![tactic(auto, using(crate::proofs::PairFacts::get_pair), unfolding(script_rules::specs::Effects::effect))]
 
 ghost use Rattle.std.specs.Prelude.{◌≡◌, [], ◌∷◌, IfOk, IfErr, ◌<◌, ◌≤◌, Ok, Some, None, false, IsTrue};
 ghost use Rattle.arena_hash.specs.Finite.{has};

@@ -1,5 +1,5 @@
 // Commands on things of any kind.
-#![tactic(auto, unfolding(script_rules::specs::Effects::effect))]
+#![tactic(auto, using(crate::proofs::ListLemmas::told), unfolding(script_rules::specs::Effects::effect))]
 
 ghost use Rattle.std.specs.Prelude.{◌≡◌, Ok, IfOk, IfErr};
 ghost use Rattle.script_rules.specs.Effects as effects;

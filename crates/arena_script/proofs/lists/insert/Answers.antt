@@ -1,15 +1,8 @@
-use Rattle.std.proofs.Common.{arith, refl}
-use Rattle.arena_script.proofs.ListActs.{insert_past, insert_full, insert_grows, list_gives, list_gives_nothing}
+use Rattle.std.proofs.Common.{arith}
+use Rattle.arena_script.proofs.ListActs.{insert_grows, list_gives, list_gives_nothing}
 use Rattle.arena_script.proofs.CostFacts.{not_given}
 use Rattle.arena_script.proofs.ThingLemmas.{holds}
 use Rattle.arena_script.proofs.lists.insert.Goals as goal
-
-pub returns-then-at-len : goal.returns-then-at-len
-returns-then-at-len g c = (insert_past (holds c.requires c.args.name c.in-Ok.ensures) c.args.at c.args.value (omega (arith, c.len.ensures)), refl)
-
-pub returns-then-len-ge-MOST_ITEMS : goal.returns-then-len-ge-MOST_ITEMS
-returns-then-len-ge-MOST_ITEMS g c =
-    (insert_full (holds c.requires c.args.name c.in-Ok.ensures) c.args.at c.args.value (omega (arith, c.len.ensures)) (omega (arith, c.len-2.ensures)), refl)
 
 pub returns-in_err-insert : goal.returns-in_err-insert
 returns-in_err-insert g c =

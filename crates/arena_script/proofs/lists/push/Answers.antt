@@ -1,12 +1,8 @@
-use Rattle.std.proofs.Common.{arith, refl}
-use Rattle.arena_script.proofs.ListActs.{push_full, push_grows, list_gives, list_gives_nothing}
+use Rattle.std.proofs.Common.{arith}
+use Rattle.arena_script.proofs.ListActs.{push_grows, list_gives, list_gives_nothing}
 use Rattle.arena_script.proofs.CostFacts.{not_given}
 use Rattle.arena_script.proofs.ThingLemmas.{holds}
 use Rattle.arena_script.proofs.lists.push.Goals as goal
-
-pub returns-then-len-ge-MOST_ITEMS : goal.returns-then-len-ge-MOST_ITEMS
-returns-then-len-ge-MOST_ITEMS g c =
-    (push_full (holds c.requires c.args.name c.in-Ok.ensures) c.args.value (omega (arith, c.len.ensures)), refl)
 
 pub returns-in_err-push : goal.returns-in_err-push
 returns-in_err-push g c =

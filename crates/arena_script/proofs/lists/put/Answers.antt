@@ -1,10 +1,7 @@
-use Rattle.std.proofs.Common.{arith, refl}
-use Rattle.arena_script.proofs.ListActs.{put_past, put_gives}
+use Rattle.std.proofs.Common.{arith}
+use Rattle.arena_script.proofs.ListActs.{put_gives}
 use Rattle.arena_script.proofs.ThingLemmas.{holds}
 use Rattle.arena_script.proofs.lists.put.Goals as goal
-
-pub returns-then-at-len : goal.returns-then-at-len
-returns-then-at-len g c = (put_past (holds c.requires c.args.name c.in-Ok.ensures) c.args.at c.args.value (omega (arith, c.len.ensures)), refl)
 
 pub returns : goal.returns
 returns g c =

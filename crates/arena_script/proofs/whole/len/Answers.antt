@@ -1,12 +1,7 @@
 use Rattle.std.proofs.Common.{refl, sym, ap, ◌∙◌, Some}
 use Rattle.arena_script.proofs.ThingLemmas.{holds}
-use Rattle.arena_script.proofs.WholeActs.{list_len, text_len}
+use Rattle.arena_script.proofs.WholeActs.{text_len}
 use Rattle.arena_script.proofs.whole.len.Goals as goal
-
-pub returns-in-Some-List : goal.returns-in-Some-List
-returns-in-Some-List g c =
-    let found = sym c.get.ensures ∙ c.in-Some-List.is ∙ ap Some c.in-Some-List.field-0-is in
-    (rw c.len.ensures (list_len (holds c.requires c.args.name found)), refl)
 
 pub returns-in-Some-Text : goal.returns-in-Some-Text
 returns-in-Some-Text g c =
