@@ -41,12 +41,10 @@ nothing_given cost before after old new same le = costs_nothing far cost before 
 -- An unrelated credit stays, and some of the credit afterwards may be dropped.
 pub costs_beside : {X : Type 0} (near cost before after more later rest : ℕ) (old new : View) (result : Result X AllocError)
     → before + rest ≡ more → later ≤ after + rest → Costs near cost before after old new result → Costs near cost more later old new result
-costs_beside near cost before after more later rest old new result sum less costs = record {
-  takes = omega (arith, costs.takes, sum, less);
-  asks = asks_more _ _ old.memory.state new.memory.state old.source new.source (omega (arith, sum)) costs.asks;
-  starved = costs.starved;
-  full = λ stays k is. let short = costs.full stays k is in record { still = short.still; short = omega (arith, short.short, sum) };
-}
+costs_beside near cost before after more later rest old new result sum less costs =
+    let asks = asks_more (used old + (cost + before)) (used old + (cost + more)) old.memory.state new.memory.state old.source new.source
+    (omega (arith, sum)) costs.asks in
+    grind (arith, asks, costs, sum, less)
 
 -- Writes before it moved no cursor.
 pub costs_from : {X : Type 0} (near cost before after : ℕ) (old start new : View) (result : Result X AllocError) → SamePlaces old start

@@ -189,18 +189,8 @@ module _ (script : List Command) (start : View) {replies : List ScriptReply} {i 
 pub run_unbegun : (script : List Command) (start : View) → used start ≡ 0 → (bytes : ℕ) → bytes ≡ used start
     → IsRun script start start (came [] OutOfMemory bytes)
 unfolding run_from
-run_unbegun script start unused bytes is = record {
-  replies = record { first = refl; all = λ e. absurd (cc) };
-  holds = λ e. absurd (cc);
-  asks = asks_same _ start start refl refl;
-  used = is;
-  most = omega (arith, is, unused);
-  least = λ e. absurd (cc);
-  so_far = let none : need (run (take 0 script)).objects ≡ 0 = refl in omega (arith, none);
-  full = λ e. absurd (cc);
-  refused = λ e. absurd (cc);
-  asked = λ _ other. absurd (other refl);
-  denied = λ _ other. absurd (other refl);
-  stopped = λ other. inl (record { exhausted = refl; none = refl; same = refl });
-  kind = record { is_growing = refl; allocated = λ stays. refl };
-}
+run_unbegun script start unused bytes is =
+    let costs = cost_with_next script (came [] OutOfMemory bytes) in
+    let asks = asks_same (used start + costs) start start refl refl in
+    let none : need (run (take 0 script)).objects ≡ 0 = refl in
+    grind (arith, asks, none, is, unused)

@@ -48,12 +48,7 @@ no_place_within le denied = record {
 -- What was given costs as much if memory runs out afterwards.
 costs_exhausted : {cost before after : ℕ} {old new : View} → CostsGiven cost before after old new
     → CostsRefused cost before after old new OutOfMemory
-costs_exhausted costs = record {
-  takes = costs.takes;
-  asks = costs.asks;
-  starved = λ growing k no. absurd (cc);
-  full = λ stays k no. absurd (cc);
-}
+costs_exhausted costs = grind (arith, costs)
 
 -- ---- One name holds another thing, or none
 
@@ -298,16 +293,11 @@ nothing_stops {command} {things} {old} {new} {e} gives =
 
 -- If memory ran out for the reply, nothing changed.
 untold_stops : {command : Command} {things : Things} {old : View} → IsTrue (tells_much command) → Stops command old old things OutOfMemory
-untold_stops {command} {things} {old} much = record {
-  fits = λ no. cc;
-  taken = ap (λ b. b || takes_room command) much;
-  least = omega arith;
-  costs = costs_exhausted (nothing_given (step command (objects_in old.memory things)).cost (credits_of things) 0 old old (still old)
-      (omega arith));
-  asked = λ k no. absurd (cc);
-  denied = λ k no. absurd (cc);
-  kind = same_kind old;
-}
+untold_stops {command} {things} {old} much =
+    let costs = costs_exhausted (nothing_given (step command (objects_in old.memory things)).cost (credits_of things) 0 old old (still old)
+    (omega arith)) in
+    let taken : IsTrue (tells_much command || takes_room command) = ap (λ b. b || takes_room command) much in
+    grind (arith, costs, taken)
 
 -- ---- The names after a command
 
