@@ -7,7 +7,7 @@ ghost use Rattle.script_rules.specs.Objects.{get, has, united, bits_end};
 ghost use Rattle.script_rules.specs.Effects as effects;
 ghost use Rattle.plain_scripts.specs.Answers.{effect_of};
 
-use crate::effect::{PlainEffect, gives};
+use crate::effect::{PlainEffect, content, gives};
 use crate::machine::PlainScripts;
 use crate::names::Names;
 use crate::object::{Kind, words_for};
@@ -69,12 +69,7 @@ impl PlainScripts {
     pub(crate) fn set_bit(&self, name: u32, bit: u32) -> Result<PlainEffect, OutOfMemory>
         ensures { IfOk result (λ e. effect_of e ≡ effects.effect (Command.SetBit name bit) (get self.now)) }
     {
-        let Some(object) = self.get(name) else {
-            return Ok(PlainEffect::Tells(ScriptReply::NoSuchName));
-        };
-        let Kind::Bits(capacity, bits) = &object.kind else {
-            return Ok(PlainEffect::Tells(ScriptReply::WrongKind));
-        };
+        content!(Kind::Bits(capacity, bits) = self.get(name), Ok);
         if bit as u64 >= bits_end(*capacity) {
             return Ok(PlainEffect::Tells(ScriptReply::OutOfRange));
         }
@@ -86,12 +81,7 @@ impl PlainScripts {
     pub(crate) fn unset_bit(&self, name: u32, bit: u32) -> Result<PlainEffect, OutOfMemory>
         ensures { IfOk result (λ e. effect_of e ≡ effects.effect (Command.UnsetBit name bit) (get self.now)) }
     {
-        let Some(object) = self.get(name) else {
-            return Ok(PlainEffect::Tells(ScriptReply::NoSuchName));
-        };
-        let Kind::Bits(capacity, bits) = &object.kind else {
-            return Ok(PlainEffect::Tells(ScriptReply::WrongKind));
-        };
+        content!(Kind::Bits(capacity, bits) = self.get(name), Ok);
         if bit as u64 >= bits_end(*capacity) {
             return Ok(PlainEffect::Tells(ScriptReply::OutOfRange));
         }
@@ -103,12 +93,7 @@ impl PlainScripts {
     pub(crate) fn has_bit(&self, name: u32, bit: u32) -> PlainEffect
         ensures { effect_of result ≡ effects.effect (Command.HasBit name bit) (get self.now) }
     {
-        let Some(object) = self.get(name) else {
-            return PlainEffect::Tells(ScriptReply::NoSuchName);
-        };
-        let Kind::Bits(capacity, bits) = &object.kind else {
-            return PlainEffect::Tells(ScriptReply::WrongKind);
-        };
+        content!(Kind::Bits(capacity, bits) = self.get(name));
         PlainEffect::Tells(ScriptReply::Truth(bit < *capacity && bits.has(bit)))
     }
 
@@ -135,12 +120,7 @@ impl PlainScripts {
     pub(crate) fn ones(&self, alloc: Global, name: u32) -> Result<PlainEffect, OutOfMemory>
         ensures { IfOk result (λ e. effect_of e ≡ effects.effect (Command.Ones name) (get self.now)) }
     {
-        let Some(object) = self.get(name) else {
-            return Ok(PlainEffect::Tells(ScriptReply::NoSuchName));
-        };
-        let Kind::Bits(capacity, bits) = &object.kind else {
-            return Ok(PlainEffect::Tells(ScriptReply::WrongKind));
-        };
+        content!(Kind::Bits(capacity, bits) = self.get(name), Ok);
         let all = members(alloc, bits, *capacity)?;
         Ok(PlainEffect::Tells(ScriptReply::Numbers(Numbers::from_vec(all))))
     }

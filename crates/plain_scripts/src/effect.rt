@@ -41,3 +41,17 @@ pub(crate) fn number_or_nothing(found: Option<u32>) -> ScriptReply
         None => ScriptReply::Nothing,
     }
 }
+
+// Binds the content of a name's object of this kind. If there is none, the command ends with a reply that says why.
+macro_rules! content {
+    ($kind:pat = $found:expr $(, $ok:ident)?) => {
+        let Some(object) = $found else {
+            return $($ok)?(PlainEffect::Tells(ScriptReply::NoSuchName));
+        };
+        let $kind = &object.kind else {
+            return $($ok)?(PlainEffect::Tells(ScriptReply::WrongKind));
+        };
+    };
+}
+
+pub(crate) use content;

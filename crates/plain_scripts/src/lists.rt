@@ -7,7 +7,7 @@ ghost use Rattle.script_rules.specs.Effects as effects;
 ghost use Rattle.plain_scripts.specs.Answers.{effect_of};
 
 use crate::copies::{first, inserted, pushed, removed, replaced};
-use crate::effect::{PlainEffect, gives, number_or_nothing};
+use crate::effect::{PlainEffect, content, gives, number_or_nothing};
 use crate::machine::PlainScripts;
 use crate::object::Kind;
 use arena_rules::OutOfMemory;
@@ -35,12 +35,7 @@ impl PlainScripts {
     ) -> Result<PlainEffect, OutOfMemory>
         ensures { IfOk result (λ e. effect_of e ≡ effects.effect (Command.Push name value) (get self.now)) }
     {
-        let Some(object) = self.get(name) else {
-            return Ok(PlainEffect::Tells(ScriptReply::NoSuchName));
-        };
-        let Kind::List(items) = &object.kind else {
-            return Ok(PlainEffect::Tells(ScriptReply::WrongKind));
-        };
+        content!(Kind::List(items) = self.get(name), Ok);
         if items.len() >= MOST_ITEMS {
             return Ok(PlainEffect::Tells(ScriptReply::CapacityOverflow));
         }
@@ -58,12 +53,7 @@ impl PlainScripts {
         ensures { IfOk result (λ e. effect_of e
             ≡ effects.effect (Command.Insert name at value) (get self.now)) }
     {
-        let Some(object) = self.get(name) else {
-            return Ok(PlainEffect::Tells(ScriptReply::NoSuchName));
-        };
-        let Kind::List(items) = &object.kind else {
-            return Ok(PlainEffect::Tells(ScriptReply::WrongKind));
-        };
+        content!(Kind::List(items) = self.get(name), Ok);
         if at as usize > items.len() {
             return Ok(PlainEffect::Tells(ScriptReply::OutOfRange));
         }
@@ -77,12 +67,7 @@ impl PlainScripts {
     pub(crate) fn pop(&self, alloc: Global, name: u32) -> Result<PlainEffect, OutOfMemory>
         ensures { IfOk result (λ e. effect_of e ≡ effects.effect (Command.Pop name) (get self.now)) }
     {
-        let Some(object) = self.get(name) else {
-            return Ok(PlainEffect::Tells(ScriptReply::NoSuchName));
-        };
-        let Kind::List(items) = &object.kind else {
-            return Ok(PlainEffect::Tells(ScriptReply::WrongKind));
-        };
+        content!(Kind::List(items) = self.get(name), Ok);
         let reply = number_or_nothing(items.last().copied());
         let items = first(alloc, items, items.len().saturating_sub(1))?;
         Ok(gives(name, Kind::List(items), reply, 0))
@@ -96,12 +81,7 @@ impl PlainScripts {
     ) -> Result<PlainEffect, OutOfMemory>
         ensures { IfOk result (λ e. effect_of e ≡ effects.effect (Command.Remove name at) (get self.now)) }
     {
-        let Some(object) = self.get(name) else {
-            return Ok(PlainEffect::Tells(ScriptReply::NoSuchName));
-        };
-        let Kind::List(items) = &object.kind else {
-            return Ok(PlainEffect::Tells(ScriptReply::WrongKind));
-        };
+        content!(Kind::List(items) = self.get(name), Ok);
         let Some(item) = items.get(at as usize) else {
             return Ok(PlainEffect::Tells(ScriptReply::OutOfRange));
         };
@@ -112,12 +92,7 @@ impl PlainScripts {
     pub(crate) fn at(&self, name: u32, at: u32) -> PlainEffect
         ensures { effect_of result ≡ effects.effect (Command.At name at) (get self.now) }
     {
-        let Some(object) = self.get(name) else {
-            return PlainEffect::Tells(ScriptReply::NoSuchName);
-        };
-        let Kind::List(items) = &object.kind else {
-            return PlainEffect::Tells(ScriptReply::WrongKind);
-        };
+        content!(Kind::List(items) = self.get(name));
         match items.get(at as usize) {
             Some(n) => PlainEffect::Tells(ScriptReply::Number(*n as u64)),
             None => PlainEffect::Tells(ScriptReply::OutOfRange),
@@ -133,12 +108,7 @@ impl PlainScripts {
     ) -> Result<PlainEffect, OutOfMemory>
         ensures { IfOk result (λ e. effect_of e ≡ effects.effect (Command.Put name at value) (get self.now)) }
     {
-        let Some(object) = self.get(name) else {
-            return Ok(PlainEffect::Tells(ScriptReply::NoSuchName));
-        };
-        let Kind::List(items) = &object.kind else {
-            return Ok(PlainEffect::Tells(ScriptReply::WrongKind));
-        };
+        content!(Kind::List(items) = self.get(name), Ok);
         if items.get(at as usize).is_none() {
             return Ok(PlainEffect::Tells(ScriptReply::OutOfRange));
         }
@@ -154,12 +124,7 @@ impl PlainScripts {
     ) -> Result<PlainEffect, OutOfMemory>
         ensures { IfOk result (λ e. effect_of e ≡ effects.effect (Command.Truncate name len) (get self.now)) }
     {
-        let Some(object) = self.get(name) else {
-            return Ok(PlainEffect::Tells(ScriptReply::NoSuchName));
-        };
-        let Kind::List(items) = &object.kind else {
-            return Ok(PlainEffect::Tells(ScriptReply::WrongKind));
-        };
+        content!(Kind::List(items) = self.get(name), Ok);
         let items = first(alloc, items, len as usize)?;
         Ok(gives(name, Kind::List(items), ScriptReply::Done, 0))
     }

@@ -6,7 +6,7 @@ ghost use Rattle.script_rules.specs.Objects.{get};
 ghost use Rattle.script_rules.specs.Effects as effects;
 ghost use Rattle.plain_scripts.specs.Answers.{effect_of};
 
-use crate::effect::{PlainEffect, gives, number_or_nothing};
+use crate::effect::{PlainEffect, content, gives, number_or_nothing};
 use crate::machine::PlainScripts;
 use crate::names::Names;
 use crate::object::Kind;
@@ -31,12 +31,7 @@ impl PlainScripts {
         ensures { IfOk result (λ e. effect_of e
             ≡ effects.effect (Command.Bind name key value) (get self.now)) }
     {
-        let Some(object) = self.get(name) else {
-            return Ok(PlainEffect::Tells(ScriptReply::NoSuchName));
-        };
-        let Kind::Map(pairs) = &object.kind else {
-            return Ok(PlainEffect::Tells(ScriptReply::WrongKind));
-        };
+        content!(Kind::Map(pairs) = self.get(name), Ok);
         let mut all = pairs.copied()?;
         match pairs.get(key) {
             Some(old) => {
@@ -56,24 +51,14 @@ impl PlainScripts {
     pub(crate) fn find(&self, name: u32, key: u32) -> PlainEffect
         ensures { effect_of result ≡ effects.effect (Command.Find name key) (get self.now) }
     {
-        let Some(object) = self.get(name) else {
-            return PlainEffect::Tells(ScriptReply::NoSuchName);
-        };
-        let Kind::Map(pairs) = &object.kind else {
-            return PlainEffect::Tells(ScriptReply::WrongKind);
-        };
+        content!(Kind::Map(pairs) = self.get(name));
         PlainEffect::Tells(number_or_nothing(pairs.get(key).copied()))
     }
 
     pub(crate) fn unbind(&self, name: u32, key: u32) -> Result<PlainEffect, OutOfMemory>
         ensures { IfOk result (λ e. effect_of e ≡ effects.effect (Command.Unbind name key) (get self.now)) }
     {
-        let Some(object) = self.get(name) else {
-            return Ok(PlainEffect::Tells(ScriptReply::NoSuchName));
-        };
-        let Kind::Map(pairs) = &object.kind else {
-            return Ok(PlainEffect::Tells(ScriptReply::WrongKind));
-        };
+        content!(Kind::Map(pairs) = self.get(name), Ok);
         let reply = number_or_nothing(pairs.get(key).copied());
         let mut rest = pairs.copied()?;
         rest.remove(key);

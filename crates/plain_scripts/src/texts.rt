@@ -8,7 +8,7 @@ ghost use Rattle.script_rules.specs.Effects as effects;
 ghost use Rattle.plain_scripts.specs.Answers.{effect_of};
 
 use crate::copies::joined;
-use crate::effect::{PlainEffect, gives};
+use crate::effect::{PlainEffect, content, gives};
 use crate::machine::PlainScripts;
 use crate::object::Kind;
 use arena_rules::OutOfMemory;
@@ -60,12 +60,7 @@ impl PlainScripts {
     ) -> Result<PlainEffect, OutOfMemory>
         ensures { IfOk result (λ e. effect_of e ≡ effects.effect (Command.Front name byte) (get self.now)) }
     {
-        let Some(object) = self.get(name) else {
-            return Ok(PlainEffect::Tells(ScriptReply::NoSuchName));
-        };
-        let Kind::Text(bytes) = &object.kind else {
-            return Ok(PlainEffect::Tells(ScriptReply::WrongKind));
-        };
+        content!(Kind::Text(bytes) = self.get(name), Ok);
         if has_other(&[byte]) {
             return Ok(PlainEffect::Tells(ScriptReply::NotAscii));
         }
@@ -85,12 +80,7 @@ impl PlainScripts {
         ensures { IfOk result (λ e. effect_of e
             ≡ effects.effect (Command.Append name more.now) (get self.now)) }
     {
-        let Some(object) = self.get(name) else {
-            return Ok(PlainEffect::Tells(ScriptReply::NoSuchName));
-        };
-        let Kind::Text(bytes) = &object.kind else {
-            return Ok(PlainEffect::Tells(ScriptReply::WrongKind));
-        };
+        content!(Kind::Text(bytes) = self.get(name), Ok);
         if has_other(more) {
             return Ok(PlainEffect::Tells(ScriptReply::NotAscii));
         }

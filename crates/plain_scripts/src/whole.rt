@@ -7,7 +7,7 @@ ghost use Rattle.script_rules.specs.Objects.{get};
 ghost use Rattle.script_rules.specs.Effects as effects;
 ghost use Rattle.plain_scripts.specs.Answers.{effect_of};
 
-use crate::effect::{PlainEffect, gives};
+use crate::effect::{PlainEffect, content, gives};
 use crate::machine::PlainScripts;
 use crate::names::Names;
 use crate::object::{Kind, PlainObject, words_for};
@@ -74,24 +74,14 @@ impl PlainScripts {
     pub(crate) fn load(&self, name: u32) -> PlainEffect
         ensures { effect_of result ≡ effects.effect (Command.Load name) (get self.now) }
     {
-        let Some(object) = self.get(name) else {
-            return PlainEffect::Tells(ScriptReply::NoSuchName);
-        };
-        let Kind::Value(value) = &object.kind else {
-            return PlainEffect::Tells(ScriptReply::WrongKind);
-        };
+        content!(Kind::Value(value) = self.get(name));
         PlainEffect::Tells(ScriptReply::Number(*value))
     }
 
     pub(crate) fn store(&self, name: u32, value: u64) -> PlainEffect
         ensures { effect_of result ≡ effects.effect (Command.Store name value) (get self.now) }
     {
-        let Some(object) = self.get(name) else {
-            return PlainEffect::Tells(ScriptReply::NoSuchName);
-        };
-        let Kind::Value(_) = &object.kind else {
-            return PlainEffect::Tells(ScriptReply::WrongKind);
-        };
+        content!(Kind::Value(_) = self.get(name));
         gives(name, Kind::Value(value), ScriptReply::Done, 0)
     }
 
