@@ -1,16 +1,17 @@
 -- Marks, and what becomes of them as the state changes.
-use Rattle.std.proofs.Common.{◌≡◌, ℕ, suc, ◌-◌, ◌<◌, ◌≤◌, arith, refl, sym, subst, length, List, [], ◌∷◌, Some, Option, Bool, true, false, IsTrue}
+use Rattle.std.proofs.Common.{◌≡◌, ℕ, suc, ◌-◌, ◌<◌, ◌≤◌, arith, ap, refl, sym, ◌∙◌, subst, length, List, [], ◌∷◌, Some, Option, Bool, true, false, IsTrue}
 use Rattle.std.specs.Prelude.{◌==◌, if◌then◌else◌}
 use Rattle.std.specs.List.{remove}
 use Rattle.std.proofs.lemmas.Option.{none-some, same_Some}
-use Rattle.arena_rules.specs.State.{State, Chunk}
+use Rattle.arena_rules.specs.State.{State, Chunk, top_of}
 use Rattle.arena_rules.specs.Moves.{alloc, grow, growing, shrink, shrinking, dealloc}
 use Rattle.arena_rules.specs.Back.{Point, first_chunks, accepts, back, KeepsMark}
-use Rattle.call_rules.specs.Machine.{Marks, mark_named, marks_to}
+use Rattle.call_rules.specs.Machine.{Held, Marks, mark_named, marks_to}
 use Rattle.arena_rules.proofs.BackLemmas.{is_mark}
 use Rattle.arena_rules.proofs.MarkLemmas.{alloc_keeps, resize_keeps, dealloc_keeps_mark, back_keeps}
 use Rattle.plain_machine.specs.Answers.{leaves}
-use Rattle.plain_machine.specs.Holding.{AreMarks}
+use Rattle.plain_machine.specs.Holding.{EndBelow, AreMarks}
+use Rattle.plain_machine.proofs.HoldingLemmas.{end_later}
 
 -- ---- The first of a list is removed
 
@@ -29,37 +30,39 @@ within : (state : State) (n : ℕ) (marks : Marks) → AreMarks state n marks �
 within state n [] are = tt
 within state n (m ∷ older) are = ((is_mark m.1 state are.1).within, are.1, are.2)
 
-marks_later : (old new : State) (n : ℕ) (marks : Marks) → ((mark : Point) → IsTrue (accepts mark old) → KeepsMark mark old new)
-    → AreMarks old n marks
-    → AreMarks new (length new.chunks) marks
-marks_later old new n marks keeps are = within new n marks (each_later old new n marks keeps are)
+-- What holds of the blocks and the marks of a machine holds after a call that keeps each mark, with its blocks in place.
+both_later : {old new : State} {n : ℕ} {held : Held} {marks : Marks} → ((mark : Point) → IsTrue (accepts mark old) → KeepsMark mark old new)
+    → top_of old.chunks ≤ top_of new.chunks → EndBelow (top_of old.chunks) held × AreMarks old n marks
+    → EndBelow (top_of new.chunks) held × AreMarks new (length new.chunks) marks
+both_later {old = old} {new = new} {n = n} {marks = marks} keeps later are =
+    (end_later _ _ _ later are.0, within new n marks (each_later old new n marks keeps are.1))
 
-pub marks_alloc : (old new : State) (size align k n : ℕ) (a : Option ℕ) (marks : Marks) → leaves new (Some a) ≡ alloc old size align k
-    → AreMarks old n marks
-    → AreMarks new (length new.chunks) marks
-marks_alloc old new size align k n a marks step are =
-    marks_later old new n marks (λ mark holds. alloc_keeps mark old size align k (record { answer = a; state = new }) holds (sym step)) are
+module _ {old new : State} (k : ℕ) {held : Held} {marks : Marks} {n : ℕ} {told : Option (Option ℕ)} {a : Option ℕ} (is : told ≡ Some a) where
+  pub alloc_later : (size align : ℕ) → leaves new told ≡ alloc old size align k → top_of old.chunks ≤ top_of new.chunks
+      → EndBelow (top_of old.chunks) held × AreMarks old n marks → EndBelow (top_of new.chunks) held × AreMarks new (length new.chunks) marks
+  alloc_later size align step =
+      both_later (λ mark holds. alloc_keeps mark old size align k (record { answer = a; state = new }) holds (sym step ∙ ap (leaves new) is))
 
-pub marks_grow : (old new : State) (p size align new_size new_align k n : ℕ) (a : Option ℕ) (marks : Marks)
-    → leaves new (Some a) ≡ grow old p size align new_size new_align k → AreMarks old n marks → AreMarks new (length new.chunks) marks
-unfolding grow
-marks_grow old new p size align new_size new_align k n a marks step are =
-    marks_later old new n marks
-    (λ mark holds. resize_keeps mark (growing old p size align new_size new_align) old p new_size new_align k
-    (record { answer = a; state = new }) holds (sym step)) are
+  pub grow_later : (p size align new_size new_align : ℕ) → leaves new told ≡ grow old p size align new_size new_align k
+      → top_of old.chunks ≤ top_of new.chunks
+      → EndBelow (top_of old.chunks) held × AreMarks old n marks → EndBelow (top_of new.chunks) held × AreMarks new (length new.chunks) marks
+  unfolding grow
+  grow_later p size align new_size new_align step =
+      both_later (λ mark holds. resize_keeps mark (growing old p size align new_size new_align) old p new_size new_align k
+      (record { answer = a; state = new }) holds (sym step ∙ ap (leaves new) is))
 
-pub marks_shrink : (old new : State) (p size align new_size new_align k n : ℕ) (a : Option ℕ) (marks : Marks)
-    → leaves new (Some a) ≡ shrink old p size align new_size new_align k → AreMarks old n marks → AreMarks new (length new.chunks) marks
-unfolding shrink
-marks_shrink old new p size align new_size new_align k n a marks step are =
-    marks_later old new n marks
-    (λ mark holds. resize_keeps mark (shrinking old p size align new_size new_align) old p new_size new_align k
-    (record { answer = a; state = new }) holds (sym step)) are
+  pub shrink_later : (p size align new_size new_align : ℕ) → leaves new told ≡ shrink old p size align new_size new_align k
+      → top_of old.chunks ≤ top_of new.chunks
+      → EndBelow (top_of old.chunks) held × AreMarks old n marks → EndBelow (top_of new.chunks) held × AreMarks new (length new.chunks) marks
+  unfolding shrink
+  shrink_later p size align new_size new_align step =
+      both_later (λ mark holds. resize_keeps mark (shrinking old p size align new_size new_align) old p new_size new_align k
+      (record { answer = a; state = new }) holds (sym step ∙ ap (leaves new) is))
 
 pub marks_dealloc : (state : State) (p size n : ℕ) (marks : Marks) → AreMarks state n marks
     → AreMarks (dealloc state p size) (length (dealloc state p size).chunks) marks
 marks_dealloc state p size n marks are =
-    marks_later state (dealloc state p size) n marks (λ mark holds. dealloc_keeps_mark mark state p size holds) are
+    within (dealloc state p size) n marks (each_later state _ n marks (λ mark holds. dealloc_keeps_mark mark state p size holds) are)
 
 each_back : (newer : Point) (state : State) (n : ℕ) (marks : Marks) → n ≤ newer.chunks → IsTrue (accepts newer state)
     → AreMarks state n marks → AreMarks (back newer state) n marks

@@ -25,11 +25,8 @@ fn compares<C: ChunkSource>(
     same(rt, one.eq_slice(a, list), order.is_eq());
     same(rt, one.cmp(a, &other), order);
     same(rt, one.partial_cmp(a, &other), Some(order));
-    same(
-        rt,
-        hash_of(rt, a, one) == hash_of(rt, a, other),
-        order.is_eq(),
-    );
+    let is_same = hash_of(rt, a, one) == hash_of(rt, a, other);
+    same(rt, is_same, order.is_eq());
 }
 
 // Returns the hash of a vector by std's hasher, which is that of a slice with the same values.

@@ -2,11 +2,12 @@
 // iterator's items is by its own hints, and no item is taken after the last that is reported.
 ghost use Rattle.arena_chunks.specs.Frame.{AreBlocksApart};
 
-use super::numbers::Hints;
+use super::numbers::Hints::{self, AtLeast, AtMost, Exactly};
 use super::vector_refusals::fixed;
 use super::vectors::{Answer, Call, Row, is_list, known, runs, vec_of};
 use super::{ample, at_most, same, same_at};
 use arena_chunks::{Allocator, Block, ChunkSource, MemoryChunks};
+use arena_vec::AllocError::CapacityOverflow;
 use arena_vec::{AllocError, Grown, Vec};
 use std::alloc::Global;
 use std::process::Abort;
@@ -34,23 +35,18 @@ fn make(a: &mut Allocator<MemoryChunks>, new: &New, taken: &mut u64) -> Grown<Ve
 const NEW_VECTORS: &[(New, &[u32], u32, u64)] = &[
     (New::Room(10), &[], 10, 40),
     (New::Room(3), &[], 3, 12),
-    (New::Items(Hints::Exactly(3)), &[1, 2, 3], 3, 12),
-    (New::Items(Hints::Exactly(0)), &[], 0, 0),
-    (New::Items(Hints::AtMost(10, 3)), &[1, 2, 3], 10, 40),
-    (New::Items(Hints::AtLeast(5, 3)), &[1, 2, 3], 5, 20),
+    (New::Items(Exactly(3)), &[1, 2, 3], 3, 12),
+    (New::Items(Exactly(0)), &[], 0, 0),
+    (New::Items(AtMost(10, 3)), &[1, 2, 3], 10, 40),
+    (New::Items(AtLeast(5, 3)), &[1, 2, 3], 5, 20),
     // There is no room for the third item, and the hint announces two more.
-    (New::Items(Hints::AtLeast(2, 5)), &[1, 2, 3, 4, 5], 5, 20),
+    (New::Items(AtLeast(2, 5)), &[1, 2, 3, 4, 5], 5, 20),
     // Too many to make room for.
-    (New::Items(Hints::AtMost(1 << 30, 3)), &[1, 2, 3], 4, 16),
-    (New::Items(Hints::AtLeast(usize::MAX, 2)), &[1, 2], 2, 8),
+    (New::Items(AtMost(1 << 30, 3)), &[1, 2, 3], 4, 16),
+    (New::Items(AtLeast(usize::MAX, 2)), &[1, 2], 2, 8),
     // Whatever the hint, the capacity at first is the requested one. The vector grows beyond it.
-    (
-        New::InRoom(3, Hints::AtMost(1_000_000, 3)),
-        &[1, 2, 3],
-        3,
-        12,
-    ),
-    (New::InRoom(2, Hints::AtLeast(0, 3)), &[1, 2, 3], 4, 16),
+    (New::InRoom(3, AtMost(1_000_000, 3)), &[1, 2, 3], 3, 12),
+    (New::InRoom(2, AtLeast(0, 3)), &[1, 2, 3], 4, 16),
 ];
 
 // There is no place, and no chunk was requested.
@@ -60,17 +56,12 @@ const NO_PLACE: AllocError = AllocError::AllocErr { refused: 0 };
 const REFUSED: &[(New, AllocError, u64, u64)] = &[
     (New::Room(5), NO_PLACE, 0, 0),
     // No item is taken if the first room is refused.
-    (New::Items(Hints::Exactly(5)), NO_PLACE, 0, 0),
+    (New::Items(Exactly(5)), NO_PLACE, 0, 0),
     // There is a place for four items. The fifth was taken too, and the block of the others stays.
-    (New::Items(Hints::AtLeast(0, 9)), NO_PLACE, 5, 16),
-    (New::InRoom(5, Hints::Exactly(3)), NO_PLACE, 0, 0),
-    (
-        New::InRoom(1 << 30, Hints::Exactly(3)),
-        AllocError::CapacityOverflow,
-        0,
-        0,
-    ),
-    (New::Room(1 << 30), AllocError::CapacityOverflow, 0, 0),
+    (New::Items(AtLeast(0, 9)), NO_PLACE, 5, 16),
+    (New::InRoom(5, Exactly(3)), NO_PLACE, 0, 0),
+    (New::InRoom(1 << 30, Exactly(3)), CapacityOverflow, 0, 0),
+    (New::Room(1 << 30), CapacityOverflow, 0, 0),
 ];
 
 fn is_made(rt: &impl Abort, alloc: Global, new: &New, list: &[u32], room: (u32, u64)) {
@@ -103,7 +94,7 @@ fn new_vectors(rt: HostRuntime) {
     }
 }
 
-const PUSHED: &[Row<'static, u32>] = &[
+const PUSHED: &[Row<u32>] = &[
     (Call::Reserve(0), Answer::Done, &[123], 1),
     (Call::Push(456), Answer::Done, &[123, 456], 2),
 ];
@@ -151,9 +142,9 @@ const PARTS: &[(&[u32], u32, (&[u32], &[u32]))] = &[
     (&[1, 2, 3, 4, 5, 6], 3, (&[1, 2, 3], &[4, 5, 6])),
 ];
 
-const INSERTED: &[Row<'static, u32>] = &[(Call::Insert(1, 9), Answer::Done, &[1, 9, 2, 3], 6)];
+const INSERTED: &[Row<u32>] = &[(Call::Insert(1, 9), Answer::Done, &[1, 9, 2, 3], 6)];
 
-const RESIZED: &[Row<'static, u32>] = &[(Call::Resize(5, 0), Answer::Done, &[1, 9, 2, 3, 0], 6)];
+const RESIZED: &[Row<u32>] = &[(Call::Resize(5, 0), Answer::Done, &[1, 9, 2, 3, 0], 6)];
 
 #[test]
 fn split_and_joined(rt: HostRuntime) {

@@ -26,11 +26,8 @@ fn as_slices(rt: HostRuntime) {
     let slice = vec.into_boxed_slice();
     of_two(&rt, &a, slice);
     same(&rt, (slice.get(&a, 0), slice.get(&a, 1)), ('x', 'y'));
-    same(
-        &rt,
-        (slice.block.addr, slice.block.size),
-        (vec.as_ptr().addr, 8),
-    );
+    same(&rt, slice.block.addr, vec.as_ptr().addr);
+    same(&rt, slice.block.size, 8);
     let slice = vec.into_arena_slice();
     of_two(&rt, &a, slice);
     same(&rt, slice.get(&a, 1), 'y');

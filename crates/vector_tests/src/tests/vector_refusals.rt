@@ -22,7 +22,7 @@ pub(super) fn fixed(rt: &impl Abort, alloc: Global, bytes: usize) -> Allocator<M
 
 const NO: Answer<u32> = Answer::Refused(0);
 
-const ON_A_LIST: &[Row<'static, u32>] = &[
+const ON_A_LIST: &[Row<u32>] = &[
     (Call::Extend(&[3, 4, 5]), NO, &[1, 2], 2),
     (Call::ExtendSlices(&[&[3], &[4, 5]]), NO, &[1, 2], 2),
     (Call::Resize(5, 9), NO, &[1, 2], 2),
@@ -36,16 +36,10 @@ const ON_A_LIST: &[Row<'static, u32>] = &[
 ];
 
 // There is no room even for the first value.
-const NO_BYTES: &[Row<'static, u32>] = &[
-    (Call::Push(1), NO, &[], 0),
-    (Call::Reserve(1), NO, &[], 0),
-];
+const NO_BYTES: &[Row<u32>] = &[(Call::Push(1), NO, &[], 0), (Call::Reserve(1), NO, &[], 0)];
 
 // The bytes of the arena, a list, and the calls on a vector of it.
-const FULL: &[(usize, &[u32], &[Row<'static, u32>])] = &[
-    (16, &[1, 2], ON_A_LIST),
-    (0, &[], NO_BYTES),
-];
+const FULL: &[(usize, &[u32], &[Row<u32>])] = &[(16, &[1, 2], ON_A_LIST), (0, &[], NO_BYTES)];
 
 #[test]
 fn calls_in_a_full_arena(rt: HostRuntime) {

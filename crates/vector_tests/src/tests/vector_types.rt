@@ -1,7 +1,9 @@
 // Tests of vectors of values of no bytes, and of the bytes of values with padding.
+use super::vectors::Answer::Overflows;
 use super::vectors::{Answer, Call, Row, from, known, vec_of};
 use super::{ample, at_most, same};
-use arena_vec::{AllocError, Grown, Vec};
+use arena_vec::AllocError::CapacityOverflow;
+use arena_vec::{Grown, Vec};
 
 #[test]
 fn of_plain_kinds(rt: HostRuntime) {
@@ -18,27 +20,18 @@ fn bytes_of_values(rt: HostRuntime) {
 
 const ALL: u32 = u32::MAX;
 
-const UNITS: &[Row<'static, ()>] = &[
+const UNITS: &[Row<()>] = &[
     (Call::Push(()), Answer::Done, &[()], ALL),
     (Call::Resize(9, ()), Answer::Done, &[(); 9], ALL),
     (Call::PushMut(()), Answer::Index(9), &[(); 10], ALL),
     (Call::PushFastMut(()), Answer::Index(10), &[(); 11], ALL),
     (Call::Reserve((1 << 32) - 12), Answer::Done, &[(); 11], ALL),
-    (
-        Call::Reserve((1 << 32) - 11),
-        Answer::Overflows,
-        &[(); 11],
-        ALL,
-    ),
+    (Call::Reserve((1 << 32) - 11), Overflows, &[(); 11], ALL),
     (Call::ShrinkToFit, Answer::Done, &[(); 11], ALL),
     (Call::Remove(0), Answer::Value(()), &[(); 10], ALL),
 ];
 
-const AT_THE_END: &[Grown<u32>] = &[
-    Ok(ALL - 1),
-    Err(AllocError::CapacityOverflow),
-    Err(AllocError::CapacityOverflow),
-];
+const AT_THE_END: &[Grown<u32>] = &[Ok(ALL - 1), Err(CapacityOverflow), Err(CapacityOverflow)];
 
 // No block is placed, and the capacity is used up.
 #[test]
@@ -56,6 +49,6 @@ fn as_many_units_as_there_are(rt: HostRuntime) {
         same(&rt, (vec.len(), a.used_bytes()), (ALL, 0));
     }
     let refused = <Vec<()>>::with_capacity_in(1 << 32, &mut a);
-    same(&rt, refused.err(), Some(AllocError::CapacityOverflow));
+    same(&rt, refused.err(), Some(CapacityOverflow));
     same(&rt, a.used_bytes(), 0);
 }
