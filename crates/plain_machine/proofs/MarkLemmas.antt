@@ -31,24 +31,24 @@ within state n [] are = tt
 within state n (m ∷ older) are = ((is_mark m.1 state are.1).within, are.1, are.2)
 
 -- What holds of the blocks and the marks of a machine holds after a call that keeps each mark, with its blocks in place.
-both_later : {old new : State} {n : ℕ} {held : Held} {marks : Marks} → ((mark : Point) → IsTrue (accepts mark old) → KeepsMark mark old new)
+both_later : (old new : State) (n : ℕ) (held : Held) (marks : Marks) → ((mark : Point) → IsTrue (accepts mark old) → KeepsMark mark old new)
     → top_of old.chunks ≤ top_of new.chunks → EndBelow (top_of old.chunks) held × AreMarks old n marks
     → EndBelow (top_of new.chunks) held × AreMarks new (length new.chunks) marks
-both_later {old = old} {new = new} {n = n} {marks = marks} keeps later are =
+both_later old new n held marks keeps later are =
     (end_later _ _ _ later are.0, within new n marks (each_later old new n marks keeps are.1))
 
-module _ {old new : State} (k : ℕ) {held : Held} {marks : Marks} {n : ℕ} {told : Option (Option ℕ)} {a : Option ℕ} (is : told ≡ Some a) where
+module _ (old new : State) (n k : ℕ) (held : Held) (marks : Marks) {told : Option (Option ℕ)} {a : Option ℕ} (is : told ≡ Some a) where
   pub alloc_later : (size align : ℕ) → leaves new told ≡ alloc old size align k → top_of old.chunks ≤ top_of new.chunks
       → EndBelow (top_of old.chunks) held × AreMarks old n marks → EndBelow (top_of new.chunks) held × AreMarks new (length new.chunks) marks
   alloc_later size align step =
-      both_later (λ mark holds. alloc_keeps mark old size align k (record { answer = a; state = new }) holds (sym step ∙ ap (leaves new) is))
+      both_later old new n held marks (λ mark holds. alloc_keeps mark old size align k (record { answer = a; state = new }) holds (sym step ∙ ap (leaves new) is))
 
   pub grow_later : (p size align new_size new_align : ℕ) → leaves new told ≡ grow old p size align new_size new_align k
       → top_of old.chunks ≤ top_of new.chunks
       → EndBelow (top_of old.chunks) held × AreMarks old n marks → EndBelow (top_of new.chunks) held × AreMarks new (length new.chunks) marks
   unfolding grow
   grow_later p size align new_size new_align step =
-      both_later (λ mark holds. resize_keeps mark (growing old p size align new_size new_align) old p new_size new_align k
+      both_later old new n held marks (λ mark holds. resize_keeps mark (growing old p size align new_size new_align) old p new_size new_align k
       (record { answer = a; state = new }) holds (sym step ∙ ap (leaves new) is))
 
   pub shrink_later : (p size align new_size new_align : ℕ) → leaves new told ≡ shrink old p size align new_size new_align k
@@ -56,7 +56,7 @@ module _ {old new : State} (k : ℕ) {held : Held} {marks : Marks} {n : ℕ} {to
       → EndBelow (top_of old.chunks) held × AreMarks old n marks → EndBelow (top_of new.chunks) held × AreMarks new (length new.chunks) marks
   unfolding shrink
   shrink_later p size align new_size new_align step =
-      both_later (λ mark holds. resize_keeps mark (shrinking old p size align new_size new_align) old p new_size new_align k
+      both_later old new n held marks (λ mark holds. resize_keeps mark (shrinking old p size align new_size new_align) old p new_size new_align k
       (record { answer = a; state = new }) holds (sym step ∙ ap (leaves new) is))
 
 pub marks_dealloc : (state : State) (p size n : ℕ) (marks : Marks) → AreMarks state n marks

@@ -1,5 +1,5 @@
 // Helpers for the tests of pools and workers.
-ghost use Rattle.std.specs.Prelude.{◌≡◌, None};
+ghost use Rattle.std.specs.Prelude.{◌≡◌};
 ghost use Rattle.arena_pool.specs.Names.{IsBlankOf};
 ghost use Rattle.arena_pool.specs.declared.kind.PoolKind.{PoolKind};
 
@@ -39,12 +39,10 @@ struct Plan {
     arenas: u32,
 }
 
-// A plan of a pool without a limit.
-fn unlimited(kind: PoolKind, arenas: u32) -> Plan
+fn plan_of(kind: PoolKind, limit: Option<u64>, arenas: u32) -> Plan
     ensures kind { result.kind ≡ kind }
-    ensures limit { result.limit ≡ None }
+    ensures limit { result.limit ≡ limit }
 {
-    let limit = None;
     Plan {
         kind,
         limit,

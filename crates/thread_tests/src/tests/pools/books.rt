@@ -3,7 +3,7 @@ ghost use Rattle.std.specs.Prelude.{◌≡◌};
 ghost use Rattle.arena_pool.specs.Kinds.{HasId, IsOfKind};
 
 use super::{SMALL, are_counts, marks};
-use crate::tests::{Plan, says, unlimited};
+use crate::tests::{Plan, plan_of, says};
 use arena_chunks::{Allocator, MemoryChunks};
 use arena_pool::laws::{events, puts};
 use arena_pool::{Book, ClaimErr, MemoryMaker, PoolErr, PoolKind};
@@ -97,7 +97,7 @@ fn refuses(rt: &impl Abort, book: &mut Book<MemoryMaker>, kind: PoolKind, why: P
 
 #[test]
 fn one_arena_is_lent_again(rt: HostRuntime) {
-    let plan = unlimited(SMALL, 1);
+    let plan = plan_of(SMALL, None, 1);
     let mut book = book_of(&rt, rt.alloc(), plan);
     let lent = lends(&rt, &mut book, plan.kind, Some(0), 64);
     refuses(&rt, &mut book, plan.kind, PoolErr::PoolEmpty);
@@ -110,12 +110,7 @@ fn one_arena_is_lent_again(rt: HostRuntime) {
 #[test]
 fn new_books(rt: HostRuntime) {
     for limit in [None, Some(16320)] {
-        let plan = Plan {
-            kind: PoolKind::Standard,
-            limit,
-            arenas: 2,
-        };
-        let book = book_of(&rt, rt.alloc(), plan);
+        let book = book_of(&rt, rt.alloc(), plan_of(PoolKind::Standard, limit, 2));
         assert!(rt; book.limit() == limit);
         are_counts(&rt, book.counts(), (2, 2, 0, 0));
     }

@@ -5,7 +5,7 @@ ghost use Rattle.arena_pool.specs.Names.{IsBlankOf};
 ghost use Rattle.arena_pool.specs.declared.kind.PoolKind.{PoolKind};
 
 use super::{All, SMALL, are_counts, places};
-use crate::tests::{Plan, holds, pool_of, unlimited};
+use crate::tests::{Plan, holds, plan_of, pool_of};
 use arena_chunks::{Allocator, ChunkSource};
 use arena_place::Layout;
 use arena_pool::{
@@ -85,13 +85,10 @@ fn lend_once<K: ChunkMaker, L: PoolName, R: Wait + Abort>(
     has_counts(rt, pool, after);
 }
 
-const BORROWS: &[(Plan, &[Borrow])] = &[
+// The kind and the limit of each pool, its arenas at first, and the borrows.
+const BORROWS: &[((PoolKind, Option<u64>, u32), &[Borrow])] = &[
     (
-        Plan {
-            kind: SMALL,
-            limit: None,
-            arenas: 1,
-        },
+        (SMALL, None, 1),
         &[
             (Some(0), 64, None, false, (1, 0, 1, 0), (1, 1, 0, 0)),
             (Some(0), 64, None, true, (1, 0, 1, 0), (1, 0, 0, 1)),
@@ -99,20 +96,12 @@ const BORROWS: &[(Plan, &[Borrow])] = &[
     ),
     // A pool without an arena makes one.
     (
-        Plan {
-            kind: PoolKind::Standard,
-            limit: None,
-            arenas: 0,
-        },
+        (PoolKind::Standard, None, 0),
         &[(None, 0, None, false, (1, 0, 1, 0), (1, 1, 0, 0))],
     ),
     // The arena comes back with its first chunk, of 16320 bytes, and then with a second one, which exceeds the limit.
     (
-        Plan {
-            kind: PoolKind::Standard,
-            limit: Some(16320),
-            arenas: 1,
-        },
+        (PoolKind::Standard, Some(16320), 1),
         &[
             (None, 0, None, false, (1, 0, 1, 0), (1, 1, 0, 0)),
             (None, 16320, Some(16320), false, (1, 0, 1, 0), (1, 0, 0, 1)),
@@ -140,8 +129,9 @@ fn borrows_of<L: PoolName, R: Wait + Abort>(
 
 #[test]
 fn borrows(rt: HostRuntime) {
-    for (plan, rows) in BORROWS {
-        borrows_of::<Brand, _>(&rt, rt.alloc(), *plan, rows, Blank::new(MOST_LENT));
+    for ((kind, limit, arenas), rows) in BORROWS {
+        let plan = plan_of(*kind, *limit, *arenas);
+        borrows_of::<Brand, _>(&rt, rt.alloc(), plan, rows, Blank::new(MOST_LENT));
     }
 }
 
@@ -201,13 +191,8 @@ fn guards_of_three<L: PoolName, R: Wait + Abort>(
     requires kind { L.kind ≡ kind }
     requires limit { L.limit ≡ None }
 {
-    let pool = pool_of::<_, L, R>(
-        rt,
-        alloc,
-        unlimited(kind, 3),
-        MemoryMaker::new(alloc, 1 << 20),
-        blank,
-    );
+    let maker = MemoryMaker::new(alloc, 1 << 20);
+    let pool = pool_of::<_, L, R>(rt, alloc, plan_of(kind, None, 3), maker, blank);
     for round in 0..3 {
         holds(rt, ids_of_three(rt, &pool, round == 0) == 7, "three ids");
     }

@@ -12,7 +12,6 @@ use std::process::Abort;
 use std::sync::Wait;
 use std::sync::atomic::{AtomicU64, Ordering};
 use std::test::*;
-use std::thread;
 use std::thread::{Threads, join};
 
 const ARENAS: u64 = 1000;
@@ -85,11 +84,8 @@ fn is_freed_once<R: Threads + Wait + Abort + Sync>(rt: &R, alloc: Global, mark: 
 #[test]
 fn each_shared_arena_is_freed_once(rt: HostRuntime) {
     for i in 0..ARENAS {
-        holds(
-            &rt,
-            is_freed_once(&rt, rt.alloc(), (i % 251) as u8),
-            "its bytes",
-        );
+        let is_so = is_freed_once(&rt, rt.alloc(), (i % 251) as u8);
+        holds(&rt, is_so, "its bytes");
     }
 }
 

@@ -3,7 +3,7 @@ ghost use Rattle.std.specs.Prelude.{◌≡◌};
 ghost use Rattle.arena_pool.specs.Names.{IsBlankOf};
 
 use super::{SMALL, are_counts, marks, wait_until};
-use crate::tests::{Plan, holds, pool_of, unlimited};
+use crate::tests::{Plan, holds, plan_of, pool_of};
 use arena_pool::{AllocatorPool, ChunkMaker, Counts, MOST_LENT, MemoryMaker, PoolKind, PoolName};
 use std::alloc::Global;
 use std::marker::Brand;
@@ -19,6 +19,8 @@ use std::thread::{Threads, join};
 const WORKERS: usize = 64;
 
 const ROUNDS: usize = 157;
+
+const LOANS: u64 = (WORKERS * ROUNDS) as u64;
 
 // Borrows an arena, marks it, and gives it back or up. Returns whether no trace of another borrower was seen.
 fn borrow<K: ChunkMaker, L: PoolName, R: Wait>(
@@ -103,23 +105,13 @@ const CROWDS: &[(PoolKind, Option<u64>, u32, usize, u64)] = &[
     (PoolKind::Standard, None, 4, 32, 32),
     // Each arena comes back with one chunk of 16320 bytes.
     (PoolKind::Standard, Some(16320), 4, 32, 32),
-    (
-        PoolKind::Standard,
-        Some(16319),
-        4,
-        32,
-        (WORKERS * ROUNDS) as u64,
-    ),
+    (PoolKind::Standard, Some(16319), 4, 32, LOANS),
 ];
 
 #[test]
 fn crowds(rt: HostRuntime) {
     for (kind, limit, arenas, givers, given_up) in CROWDS {
-        let plan = Plan {
-            kind: *kind,
-            limit: *limit,
-            arenas: *arenas,
-        };
+        let plan = plan_of(*kind, *limit, *arenas);
         let blank = Blank::new(MOST_LENT);
         crowd::<Brand, _>(&rt, rt.alloc(), plan, *givers, *given_up, blank);
     }
@@ -189,6 +181,6 @@ fn one_waits<L: PoolName + Send + Sync, R: Threads + Wait + Abort + Sync>(
 
 #[test]
 fn a_borrower_waits_until_another_gives_back(rt: HostRuntime) {
-    let plan = unlimited(PoolKind::FixedSize { bytes: 48 }, 1);
+    let plan = plan_of(PoolKind::FixedSize { bytes: 48 }, None, 1);
     one_waits::<Brand, _>(&rt, rt.alloc(), plan, Blank::new(MOST_LENT));
 }

@@ -7,7 +7,7 @@ ghost use Rattle.arena_pool.specs.declared.kind.PoolKind.{PoolKind};
 use super::over::over_pool;
 use super::stages::Stages;
 use super::{are_at_rest, is_done, is_right, is_vast, scripts};
-use crate::tests::{Plan, holds, pool_of, unlimited};
+use crate::tests::{Plan, holds, plan_of, pool_of};
 use arena_chunks::ChunkSource;
 use arena_pool::{AllocatorPool, ChunkMaker, Counts, MOST_LENT, MemoryMaker, PoolKind, PoolName};
 use script_rules::Ended;
@@ -109,7 +109,7 @@ fn crowd_over<R: Threads + Wait + Abort + Sync>(
     scripts: usize,
 ) -> Result<(), Fail> {
     let row = Row {
-        plan: unlimited(kind, arenas),
+        plan: plan_of(kind, None, arenas),
         workers,
         scripts,
     };

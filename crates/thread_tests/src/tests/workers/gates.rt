@@ -2,7 +2,7 @@
 // finished.
 use super::over::over_new;
 use super::{is_done, is_right, scripts};
-use crate::tests::{holds, says, unlimited};
+use crate::tests::{holds, plan_of, says};
 use arena_pool::{MemoryMaker, PoolKind};
 use arena_script::Engine;
 use script_workers::{Gate, ScriptsErr};
@@ -52,7 +52,7 @@ fn run_at_once<R: Threads + Wait + Abort + Sync>(
     alloc: Global,
     workers: u32,
 ) -> Result<(), Fail> {
-    let plan = unlimited(PoolKind::Standard, workers);
+    let plan = plan_of(PoolKind::Standard, None, workers);
     let maker = MemoryMaker::new(alloc, 1 << 20);
     let gate = AfterTheLast {
         last: workers.saturating_sub(1),

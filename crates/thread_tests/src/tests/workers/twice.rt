@@ -5,7 +5,7 @@ ghost use Rattle.arena_pool.specs.Names.{IsBlankOf};
 
 use super::are_at_rest;
 use super::over::over_pool;
-use crate::tests::{holds, pool_of, unlimited};
+use crate::tests::{holds, plan_of, pool_of};
 use arena_chunks::ChunkSource;
 use arena_pool::{AllocatorPool, ChunkMaker, MOST_LENT, MemoryMaker, PoolKind, PoolName};
 use arena_script::Engine;
@@ -29,34 +29,13 @@ script 0\ndone\ndone\ndone\nnumber 6\nout of range\nname taken\ndone\ndone\nnot 
 script 1\ndone\ndone\ndone\nnumber 6\nout of range\nname taken\ndone\ndone\nnot ascii\nbytes 68\nwrong kind\nended done\n";
 
 // A pool's kind, its arenas, and the workers. After each run all arenas are stored, and no further one was made.
-#[derive(Clone, Copy)]
-struct Row {
-    kind: PoolKind,
-    arenas: u32,
-    workers: u32,
-}
+type Row = (PoolKind, u32, u32);
 
 const ROWS: &[Row] = &[
-    Row {
-        kind: PoolKind::Standard,
-        arenas: 1,
-        workers: 1,
-    },
-    Row {
-        kind: PoolKind::Standard,
-        arenas: 2,
-        workers: 2,
-    },
-    Row {
-        kind: PoolKind::Standard,
-        arenas: 64,
-        workers: 64,
-    },
-    Row {
-        kind: PoolKind::FixedSize { bytes: 144 },
-        arenas: 1,
-        workers: 64,
-    },
+    (PoolKind::Standard, 1, 1),
+    (PoolKind::Standard, 2, 2),
+    (PoolKind::Standard, 64, 64),
+    (PoolKind::FixedSize { bytes: 144 }, 1, 64),
 ];
 
 fn are_lines<C: ChunkSource>(alloc: Global, all: &[Served<C>]) -> Result<bool, Fail> {
@@ -76,13 +55,13 @@ fn run_once<
     rt: &R,
     alloc: Global,
     pool: &AllocatorPool<K, L>,
-    row: Row,
+    (_, arenas, workers): Row,
     scripts: &[Script],
 ) -> Result<(), Fail> {
-    let (all, counts) = over_pool(rt, alloc, pool, row.workers, &NoGate, &Engine, scripts);
+    let (all, counts) = over_pool(rt, alloc, pool, workers, &NoGate, &Engine, scripts);
     holds(rt, are_lines(alloc, &all)?, "the same lines");
     are_at_rest(rt, counts, 0);
-    let arenas = u64::from(row.arenas);
+    let arenas = u64::from(arenas);
     let are_stored = counts.made == arenas && counts.stored == arenas;
     holds(rt, are_stored, "the arenas of before");
     Ok(())
@@ -96,10 +75,10 @@ fn run_twice<L: PoolName + Send + Sync, R: Threads + Wait + Abort + Sync>(
     scripts: &[Script],
 ) -> Result<(), Fail>
     requires blank { IsBlankOf L.name L.parts blank }
-    requires kind { L.kind ≡ row.kind }
+    requires kind { L.kind ≡ row.0 }
     requires limit { L.limit ≡ None }
 {
-    let plan = unlimited(row.kind, row.arenas);
+    let plan = plan_of(row.0, None, row.1);
     let maker = MemoryMaker::new(alloc, 1 << 20);
     let pool = pool_of::<MemoryMaker, L, R>(rt, alloc, plan, maker, blank);
     for _ in 0..2 {

@@ -5,4 +5,4 @@ abbrev pub ghosts-run_twice-L-Ledger : goal.ghosts-run_twice-L-Ledger
 ghosts-run_twice-L-Ledger g a = record { name = a.blank.name; parts = a.blank.parts }
 
 abbrev pub ghosts-run_twice-L-PoolName : goal.ghosts-run_twice-L-PoolName
-ghosts-run_twice-L-PoolName g a = record { kind = a.row.kind; limit = None }
+ghosts-run_twice-L-PoolName g a = record { kind = a.row.0; limit = None }
