@@ -39,6 +39,15 @@ const CALLS: Asked<'static> = Asked {
     writes: &[],
 };
 
+// These words and this input, without failing reads or writes.
+fn asks<'a>(words: &'a [&'a str], text: &'a [u8]) -> Asked<'a> {
+    Asked {
+        words,
+        text,
+        ..CALLS
+    }
+}
+
 fn streams(alloc: Global, asked: &Asked) -> Result<(MemoryInput, MemoryOutput), Fail> {
     let text = asked.text.to_vec(alloc)?;
     let (reads, writes) = (asked.reads.to_vec(alloc)?, asked.writes.to_vec(alloc)?);

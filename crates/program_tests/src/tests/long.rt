@@ -1,5 +1,5 @@
 // Tests of inputs that are long enough to be parsed on several workers.
-use super::{Asked, CALLS, ends_so};
+use super::{asks, ends_so};
 use std::alloc::Global;
 use std::test::Fail;
 
@@ -36,11 +36,8 @@ fn told(alloc: Global) -> Result<Vec<u8>, Fail> {
 fn long_inputs_on_workers(rt: HostRuntime) -> Result<(), Fail> {
     let (text, told) = (input(rt.alloc(), &[])?, told(rt.alloc())?);
     for workers in ["1", "3", "4"] {
-        let asked = Asked {
-            words: &["scripts", workers],
-            text: text.as_slice(),
-            ..CALLS
-        };
+        let words = ["scripts", workers];
+        let asked = asks(&words, text.as_slice());
         ends_so(&rt, rt.alloc(), &asked, (0, 0, told.as_slice()), workers)?;
     }
     Ok(())
@@ -71,11 +68,8 @@ const REFUSED: &[Row] = &[
 fn refused_lines_of_long_inputs(rt: HostRuntime) -> Result<(), Fail> {
     for (workers, added, number) in REFUSED {
         let text = input(rt.alloc(), added)?;
-        let asked = Asked {
-            words: &["scripts", workers],
-            text: text.as_slice(),
-            ..CALLS
-        };
+        let words = ["scripts", workers];
+        let asked = asks(&words, text.as_slice());
         ends_so(&rt, rt.alloc(), &asked, (2, *number, b""), workers)?;
     }
     Ok(())

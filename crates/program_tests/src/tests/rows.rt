@@ -5,10 +5,10 @@ use std::test::Fail;
 // The words, the input and the output.
 type Row = (&'static [&'static str], &'static str, &'static str);
 
-const LIST_AND_TEXT: &str = "\
+const ONE: &str = "\
 script\nlist 1\npush 1 5\npush 1 6\nat 1 1\nat 1 2\nlist 1\ntext 2\nbyte 2 104\nbyte 2 200\nshow 2\npop 2\n";
 
-const LIST_AND_TEXT_TOLD: &str = "\
+const ONE_TOLD: &str = "\
 script 0\ndone\ndone\ndone\nnumber 6\nout of range\nname taken\ndone\ndone\nnot ascii\nbytes 68\nwrong kind\nended done\n";
 
 // The same script twice.
@@ -26,22 +26,14 @@ const SOURCES_TOLD: &str = "source 0\nundefined b\nshadowed a\nsource 1\nsyntax 
 
 // Arenas over a region have 48 bytes less than the region.
 const ROWS: &[Row] = &[
-    (&["scripts", "1"], LIST_AND_TEXT, LIST_AND_TEXT_TOLD),
+    (&["scripts", "1"], ONE, ONE_TOLD),
     (
         &["scripts", "1", "fixed", "48", "1"],
-        LIST_AND_TEXT,
+        ONE,
         "script 0\ndone\nended full\n",
     ),
-    (
-        &["scripts", "1", "fixed", "144", "1"],
-        LIST_AND_TEXT,
-        LIST_AND_TEXT_TOLD,
-    ),
-    (
-        &["scripts", "1", "keep", "0"],
-        LIST_AND_TEXT,
-        LIST_AND_TEXT_TOLD,
-    ),
+    (&["scripts", "1", "fixed", "144", "1"], ONE, ONE_TOLD),
+    (&["scripts", "1", "keep", "0"], ONE, ONE_TOLD),
     (&["scripts", "1"], TWO, TWO_TOLD),
     (&["scripts", "2"], TWO, TWO_TOLD),
     (&["scripts", "64"], TWO, TWO_TOLD),

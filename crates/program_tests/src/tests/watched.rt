@@ -1,6 +1,6 @@
 // Tests of the words as seen by makers of sources, by sources and by jobs: the number of arenas, the number of
 // workers that are at work at the same time, and the arenas that are lent again.
-use super::{Asked, CALLS, streams, words};
+use super::{asks, streams, words};
 use arena_calls::{Input, Output, Status};
 use arena_chunks::{Allocator, Arena, ChunkSource, MemoryChunks};
 use arena_pool::ChunkMaker;
@@ -171,19 +171,15 @@ const AGAIN: &[Row] = &[
 fn is_watched<R: Threads + Wait + Sync + Abort>(
     rt: &R,
     alloc: Global,
-    (asks, text, at_once, made, lent): &Row,
+    (list, text, at_once, made, lent): &Row,
 ) -> Result<(), Fail> {
-    let asked = Asked {
-        words: asks,
-        text: text.as_bytes(),
-        ..CALLS
-    };
-    let words = words(alloc, asks)?;
+    let asked = asks(list, text.as_bytes());
+    let words = words(alloc, list)?;
     let (mut input, mut output) = streams(alloc, &asked)?;
     let watch = Watch::new(*at_once);
     let status = serve(rt, alloc, &words, &mut input, &mut output, &watch);
     let is_so = status.code() == 0 && watch.saw(*made, *lent);
-    assert!(rt; is_so, "{asks:?}");
+    assert!(rt; is_so, "{list:?}");
     Ok(())
 }
 

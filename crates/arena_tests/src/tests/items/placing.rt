@@ -1,6 +1,7 @@
 // Tests of calls that place values, as tables of calls with their expected results.
+use super::calls::Call::*;
 use super::calls::Wanted::{Placed, Refused, TooFew};
-use super::calls::{Call, Row, answers};
+use super::calls::{Row, answers};
 use crate::tests::{ample, refusing};
 use arena_chunks::{Allocator, MemoryChunks};
 use std::process::Abort;
@@ -17,42 +18,38 @@ const NUMBERS: &[u8] = b"\x01\0\0\0\0\0\0\0\x02\0\0\0\0\0\0\0\x03\0\0\0\0\0\0\0"
 
 // Each call is made on a new allocator.
 const ROWS: &[Row] = &[
-    ("alloc", Call::Alloc, Placed(20412, THREE)),
-    ("try_alloc", Call::TryAlloc, Placed(20412, THREE)),
-    ("alloc_with", Call::AllocWith, Placed(20412, THREE)),
-    ("try_alloc_with", Call::TryAllocWith, Placed(20412, THREE)),
-    ("copy", Call::SliceCopy, Placed(20404, ONE_TO_THREE)),
-    ("clone", Call::SliceClone, Placed(20404, ONE_TO_THREE)),
-    ("fill_copy", Call::FillCopy(3), Placed(20404, THREES)),
-    ("fill_clone", Call::FillClone(3), Placed(20404, THREES)),
-    (
-        "fill_default",
-        Call::FillDefault(3),
-        Placed(20404, &[0; 12]),
-    ),
-    ("fill_with", Call::FillWith(3), Placed(20392, DOUBLES)),
-    ("fill_iter", Call::FillIter(3, 3), Placed(20392, NUMBERS)),
-    ("one too few", Call::FillIter(3, 2), TooFew(2)),
+    ("alloc", Alloc, Placed(20412, THREE)),
+    ("try_alloc", TryAlloc, Placed(20412, THREE)),
+    ("alloc_with", AllocWith, Placed(20412, THREE)),
+    ("try_alloc_with", TryAllocWith, Placed(20412, THREE)),
+    ("copy", SliceCopy, Placed(20404, ONE_TO_THREE)),
+    ("clone", SliceClone, Placed(20404, ONE_TO_THREE)),
+    ("fill_copy", FillCopy(3), Placed(20404, THREES)),
+    ("fill_clone", FillClone(3), Placed(20404, THREES)),
+    ("fill_default", FillDefault(3), Placed(20404, &[0; 12])),
+    ("fill_with", FillWith(3), Placed(20392, DOUBLES)),
+    ("fill_iter", FillIter(3, 3), Placed(20392, NUMBERS)),
+    ("one too few", FillIter(3, 2), TooFew(2)),
 ];
 
 // The values have no valid layout, or exceed the largest chunk.
 const TOO_MANY: &[Row] = &[
-    ("fill_copy", Call::FillCopy(1 << 61), Refused(0)),
-    ("fill_with", Call::FillWith(u64::MAX), Refused(0)),
-    ("fill_iter", Call::FillIter(1 << 61, 5), Refused(0)),
+    ("fill_copy", FillCopy(1 << 61), Refused(0)),
+    ("fill_with", FillWith(u64::MAX), Refused(0)),
+    ("fill_iter", FillIter(1 << 61, 5), Refused(0)),
     (
         "the most with a layout",
-        Call::FillIter((1 << 60) - 1, 5),
+        FillIter((1 << 60) - 1, 5),
         Refused(0),
     ),
 ];
 
 // Calls in sequence, in an arena of 16 bytes that doesn't grow.
 const SIXTEEN: &[Row] = &[
-    ("three of 4", Call::SliceCopy, Placed(4100, ONE_TO_THREE)),
-    ("one of 8", Call::FillWith(1), Refused(0)),
-    ("one of 4", Call::AllocWith, Placed(4096, THREE)),
-    ("none", Call::FillWith(0), Placed(4096, &[])),
+    ("three of 4", SliceCopy, Placed(4100, ONE_TO_THREE)),
+    ("one of 8", FillWith(1), Refused(0)),
+    ("one of 4", AllocWith, Placed(4096, THREE)),
+    ("none", FillWith(0), Placed(4096, &[])),
 ];
 
 // Each call is made on a new allocator, whose first request is refused, and again. The calls with too many values make

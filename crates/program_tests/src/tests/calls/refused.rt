@@ -1,5 +1,5 @@
 // Tests of inputs with a line that isn't a call.
-use crate::tests::{Asked, CALLS, ends_so};
+use crate::tests::{asks, ends_so};
 use std::test::Fail;
 
 // An input, and the number of its first refused line.
@@ -31,10 +31,7 @@ const REFUSED: &[(&str, u64)] = &[
 #[test]
 fn refused_lines(rt: HostRuntime) -> Result<(), Fail> {
     for (input, n) in REFUSED {
-        let asked = Asked {
-            text: input.as_bytes(),
-            ..CALLS
-        };
+        let asked = asks(&["calls"], input.as_bytes());
         ends_so(&rt, rt.alloc(), &asked, (2, *n, b""), input)?;
     }
     Ok(())

@@ -1,6 +1,6 @@
 // Tests of lines of calls, and of the replies that follow from the rules.
 use super::endings::{LINES, REPLIES};
-use crate::tests::{Asked, CALLS, ends_so, holds, run_over};
+use crate::tests::{asks, ends_so, holds, run_over};
 use arena_chunks::RefusingChunks;
 use std::alloc::Global;
 use std::process::Abort;
@@ -109,10 +109,7 @@ const ROWS: &[(&str, &str)] = &[
 #[test]
 fn replies_that_the_rules_give(rt: HostRuntime) -> Result<(), Fail> {
     for (calls, replies) in ROWS {
-        let asked = Asked {
-            text: calls.as_bytes(),
-            ..CALLS
-        };
+        let asked = asks(&["calls"], calls.as_bytes());
         ends_so(&rt, rt.alloc(), &asked, (0, 0, replies.as_bytes()), calls)?;
     }
     Ok(())
@@ -151,10 +148,7 @@ fn refused_so<R: Threads + Wait + Sync + Abort>(
     requests: &[(u64, u64)],
 ) -> Result<(), Fail> {
     let mut chunks = RefusingChunks::new(alloc, refuse.to_vec(alloc)?);
-    let asked = Asked {
-        text: calls.as_bytes(),
-        ..CALLS
-    };
+    let asked = asks(&["calls"], calls.as_bytes());
     let ended = run_over(rt, alloc, &mut chunks, &asked)?;
     holds(rt, ended.is((0, 0, replies.as_bytes())), calls);
     holds(rt, chunks.requests() == Some(requests), calls);
