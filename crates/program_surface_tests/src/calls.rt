@@ -5,50 +5,39 @@ use arena_calls::{
 use arena_chunks::{Arena, Block, Bytes, Call, ChunkSource, Ran, Reply, Stopped, run_calls};
 use std::alloc::Global;
 
-fn all_calls(bytes: Bytes) -> [Call; 11] {
+fn all_calls(name: u32, size: u64, align: u64, fill: u8, at: u64, bytes: Bytes) -> [Call; 11] {
     [
         Call::Alloc {
-            name: 1u32,
-            size: 2u64,
-            align: 3u64,
-            fill: 4u8,
+            name,
+            size,
+            align,
+            fill,
         },
         Call::Grow {
-            name: 1u32,
-            size: 2u64,
-            align: 3u64,
-            fill: 4u8,
+            name,
+            size,
+            align,
+            fill,
         },
-        Call::Shrink {
-            name: 1u32,
-            size: 2u64,
-            align: 3u64,
-        },
-        Call::Dealloc { name: 1u32 },
-        Call::Write {
-            name: 1u32,
-            at: 2u64,
-            bytes,
-        },
-        Call::Read { name: 1u32 },
-        Call::Mark { name: 1u32 },
-        Call::Back { name: 1u32 },
+        Call::Shrink { name, size, align },
+        Call::Dealloc { name },
+        Call::Write { name, at, bytes },
+        Call::Read { name },
+        Call::Mark { name },
+        Call::Back { name },
         Call::Reset,
         Call::Used,
         Call::Allocated,
     ]
 }
 
-fn all_replies(bytes: Bytes) -> [Reply; 9] {
+fn all_replies(addr: u64, refused: u32, bytes: Bytes) -> [Reply; 9] {
     [
-        Reply::Placed {
-            addr: 1u64,
-            refused: 2u32,
-        },
+        Reply::Placed { addr, refused },
         Reply::Done,
         Reply::Bytes(bytes),
         Reply::Number(1u64),
-        Reply::AllocErr { refused: 1u32 },
+        Reply::AllocErr { refused },
         Reply::NoSuchName,
         Reply::NameTaken,
         Reply::BadLayout,

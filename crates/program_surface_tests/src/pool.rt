@@ -1,6 +1,4 @@
 // Public items of books and pools.
-ghost use Rattle.std.specs.Prelude.{◌≡◌};
-
 use crate::kinds::is_error;
 use arena_chunks::{Allocator, ChunkSource, MemoryChunks, OutOfMemory};
 use arena_items::GetAllocator;
@@ -79,40 +77,29 @@ fn named<L: PoolName>() {
     is_ledger::<L>();
 }
 
-fn pool<K: ChunkMaker + Drop, L: PoolName>(
-    alloc: Global,
-    maker: K,
-    blank: Blank,
-) -> Result<AllocatorPool<K, L>, OutOfMemory> {
-    return Err(OutOfMemory);
-    return AllocatorPool::new(alloc, 1u32, maker, blank);
-}
-
-fn with_limit<K: ChunkMaker + Drop, L: PoolName>(
-    alloc: Global,
-    maker: K,
-    blank: Blank,
-) -> Result<AllocatorPool<K, L>, OutOfMemory> {
-    return Err(OutOfMemory);
-    return AllocatorPool::new_with_limit(alloc, 1u32, 2u64, maker, blank);
-}
-
-fn fixed_size<K: ChunkMaker + Drop, L: PoolName>(
-    alloc: Global,
-    maker: K,
-    blank: Blank,
-) -> Result<AllocatorPool<K, L>, OutOfMemory> {
-    return Err(OutOfMemory);
-    return AllocatorPool::new_fixed_size(alloc, 1u32, 48u64, maker, blank);
-}
-
-fn of_kind<K: ChunkMaker + Drop, L: PoolName>(
-    alloc: Global,
-    maker: K,
-    blank: Blank,
-) -> Result<AllocatorPool<K, L>, OutOfMemory> {
-    return Err(OutOfMemory);
-    return AllocatorPool::of_kind(alloc, PoolKind::Standard, Some(2u64), 1u32, maker, blank);
+fn pools<K: ChunkMaker + Drop, L: PoolName>(alloc: Global, maker: K, blank: Blank) {
+    return;
+    let _: Result<AllocatorPool<K, L>, OutOfMemory> = AllocatorPool::new(alloc, 1u32, maker, blank);
+    let _: Result<AllocatorPool<K, L>, OutOfMemory> = AllocatorPool::new_with_limit(
+        alloc, 1u32, 2u64, maker, blank,
+    );
+    let _: Result<AllocatorPool<K, L>, OutOfMemory> = AllocatorPool::new_fixed_size(
+        alloc, 1u32, 48u64, maker, blank,
+    );
+    let _: Result<AllocatorPool<K, L>, OutOfMemory> = AllocatorPool::of_kind(
+        alloc,
+        PoolKind::Standard,
+        Some(2u64),
+        1u32,
+        maker,
+        blank,
+    );
+    let _: Result<StandardAllocatorPool<K, L>, OutOfMemory> = StandardAllocatorPool::new(
+        alloc, 1u32, maker, blank,
+    );
+    let _: Result<FixedSizeAllocatorPool<K, L>, OutOfMemory> = FixedSizeAllocatorPool::new(
+        alloc, 1u32, 48u64, maker, blank,
+    );
 }
 
 fn guarded<'a, K: ChunkMaker, L: PoolName, R: Wait>(
@@ -163,24 +150,6 @@ fn put_back<K: ChunkMaker, L: PoolName, R: Wait>(
 ) -> Option<Allocator<K::Chunks>> {
     return Some(guard.give_up(rt));
     let _: () = guard.put_back(rt);
-}
-
-fn standard<K: ChunkMaker + Drop, L: PoolName>(
-    alloc: Global,
-    maker: K,
-    blank: Blank,
-) -> Result<StandardAllocatorPool<K, L>, OutOfMemory> {
-    return Err(OutOfMemory);
-    return StandardAllocatorPool::new(alloc, 1u32, maker, blank);
-}
-
-fn fixed<K: ChunkMaker + Drop, L: PoolName>(
-    alloc: Global,
-    maker: K,
-    blank: Blank,
-) -> Result<FixedSizeAllocatorPool<K, L>, OutOfMemory> {
-    return Err(OutOfMemory);
-    return FixedSizeAllocatorPool::new(alloc, 1u32, 48u64, maker, blank);
 }
 
 fn from_standard<K: ChunkMaker, L: PoolName, R: Wait>(

@@ -1,122 +1,65 @@
 // Public items of scripts, with their commands and replies, and of the engine.
-ghost use Rattle.std.specs.Prelude.{◌≡◌};
-
 use arena_chunks::{Allocator, Bytes, ChunkSource, OutOfMemory};
 use arena_script::{Engine, Job, run_script};
 use script_rules::{Command, Ended, Numbers, Outcome, Replies, Script, ScriptReply};
 use std::alloc::Global;
 
-fn makes() -> [Command; 5] {
+fn makes(name: u32, capacity: u32, value: u64) -> [Command; 5] {
     [
-        Command::MakeList { name: 1u32 },
-        Command::MakeText { name: 1u32 },
-        Command::MakeBits {
-            name: 1u32,
-            capacity: 2u32,
-        },
-        Command::MakeMap { name: 1u32 },
-        Command::MakeValue {
-            name: 1u32,
-            value: 2u64,
-        },
+        Command::MakeList { name },
+        Command::MakeText { name },
+        Command::MakeBits { name, capacity },
+        Command::MakeMap { name },
+        Command::MakeValue { name, value },
     ]
 }
 
-fn lists() -> [Command; 7] {
+fn lists(name: u32, at: u32, value: u32, len: u32) -> [Command; 7] {
     [
-        Command::Push {
-            name: 1u32,
-            value: 2u32,
-        },
-        Command::Insert {
-            name: 1u32,
-            at: 2u32,
-            value: 3u32,
-        },
-        Command::Pop { name: 1u32 },
-        Command::Remove {
-            name: 1u32,
-            at: 2u32,
-        },
-        Command::At {
-            name: 1u32,
-            at: 2u32,
-        },
-        Command::Put {
-            name: 1u32,
-            at: 2u32,
-            value: 3u32,
-        },
-        Command::Truncate {
-            name: 1u32,
-            len: 2u32,
-        },
+        Command::Push { name, value },
+        Command::Insert { name, at, value },
+        Command::Pop { name },
+        Command::Remove { name, at },
+        Command::At { name, at },
+        Command::Put { name, at, value },
+        Command::Truncate { name, len },
     ]
 }
 
-fn texts(bytes: Bytes) -> [Command; 3] {
+fn texts(name: u32, byte: u8, bytes: Bytes) -> [Command; 3] {
     [
-        Command::Byte {
-            name: 1u32,
-            byte: 2u8,
-        },
-        Command::Front {
-            name: 1u32,
-            byte: 2u8,
-        },
-        Command::Append { name: 1u32, bytes },
+        Command::Byte { name, byte },
+        Command::Front { name, byte },
+        Command::Append { name, bytes },
     ]
 }
 
-fn sets() -> [Command; 5] {
+fn sets(name: u32, bit: u32, other: u32) -> [Command; 5] {
     [
-        Command::SetBit {
-            name: 1u32,
-            bit: 2u32,
-        },
-        Command::UnsetBit {
-            name: 1u32,
-            bit: 2u32,
-        },
-        Command::HasBit {
-            name: 1u32,
-            bit: 2u32,
-        },
-        Command::Union {
-            name: 1u32,
-            other: 2u32,
-        },
-        Command::Ones { name: 1u32 },
+        Command::SetBit { name, bit },
+        Command::UnsetBit { name, bit },
+        Command::HasBit { name, bit },
+        Command::Union { name, other },
+        Command::Ones { name },
     ]
 }
 
-fn others() -> [Command; 9] {
+fn maps(name: u32, key: u32, value: u32) -> [Command; 3] {
     [
-        Command::Bind {
-            name: 1u32,
-            key: 2u32,
-            value: 3u32,
-        },
-        Command::Find {
-            name: 1u32,
-            key: 2u32,
-        },
-        Command::Unbind {
-            name: 1u32,
-            key: 2u32,
-        },
-        Command::Load { name: 1u32 },
-        Command::Store {
-            name: 1u32,
-            value: 2u64,
-        },
-        Command::Len { name: 1u32 },
-        Command::Show { name: 1u32 },
-        Command::CopyTo {
-            name: 1u32,
-            other: 2u32,
-        },
-        Command::DropName { name: 1u32 },
+        Command::Bind { name, key, value },
+        Command::Find { name, key },
+        Command::Unbind { name, key },
+    ]
+}
+
+fn others(name: u32, value: u64, other: u32) -> [Command; 6] {
+    [
+        Command::Load { name },
+        Command::Store { name, value },
+        Command::Len { name },
+        Command::Show { name },
+        Command::CopyTo { name, other },
+        Command::DropName { name },
     ]
 }
 

@@ -11,40 +11,30 @@ fn first(alloc: Global) -> Arena<1> {
     Arena::<1>::new(alloc)
 }
 
-fn with_capacity<C: ChunkSource>(
+fn of_capacity<C: ChunkSource>(
     alloc: Global,
     chunks: &mut C,
     capacity: u64,
-) -> Result<Arena<1>, ArenaErr> {
-    Arena::<1>::with_capacity(alloc, chunks, capacity)
-}
-
-fn try_with_capacity<C: ChunkSource>(
-    alloc: Global,
-    chunks: &mut C,
-    capacity: u64,
-) -> Result<Arena<1>, ArenaErr> {
-    Arena::<1>::try_with_capacity(alloc, chunks, capacity)
+) -> [Result<Arena<1>, ArenaErr>; 2] {
+    [
+        Arena::<1>::with_capacity(alloc, chunks, capacity),
+        Arena::<1>::try_with_capacity(alloc, chunks, capacity),
+    ]
 }
 
 fn with_min_align(alloc: Global) -> Arena<16> {
     Arena::<16>::with_min_align(alloc)
 }
 
-fn with_both<C: ChunkSource>(
+fn of_both<C: ChunkSource>(
     alloc: Global,
     chunks: &mut C,
     capacity: u64,
-) -> Result<Arena<16>, ArenaErr> {
-    Arena::<16>::with_min_align_and_capacity(alloc, chunks, capacity)
-}
-
-fn try_with_both<C: ChunkSource>(
-    alloc: Global,
-    chunks: &mut C,
-    capacity: u64,
-) -> Result<Arena<16>, ArenaErr> {
-    Arena::<16>::try_with_min_align_and_capacity(alloc, chunks, capacity)
+) -> [Result<Arena<16>, ArenaErr>; 2] {
+    [
+        Arena::<16>::with_min_align_and_capacity(alloc, chunks, capacity),
+        Arena::<16>::try_with_min_align_and_capacity(alloc, chunks, capacity),
+    ]
 }
 
 fn over(alloc: Global, region: Vec<u8>) -> Result<Arena<16>, RawErr> {

@@ -46,22 +46,14 @@ fn blocks() {
     is_shown::<Excess>();
 }
 
-fn parts(block: Block) -> Str {
-    let Block {
+fn parts(generation: u64, addr: u64, size: u64, align: u64) -> Str {
+    let block = Block {
         generation,
         addr,
         size,
         align,
-    } = block;
-    let (generation, addr, size, align): (u64, u64, u64, u64) = (generation, addr, size, align);
-    Str {
-        block: Block {
-            generation,
-            addr,
-            size,
-            align,
-        },
-    }
+    };
+    Str { block }
 }
 
 fn refused(e: ArenaErr) -> Option<u32> {

@@ -212,14 +212,7 @@ fn texts_of_sets(rt: HostRuntime) {
 
 // Two sets by their capacities and numbers; and the numbers of the first below its capacity, and its text, after the
 // second is joined to it.
-type Joined = (
-    u64,
-    &'static [u64],
-    u64,
-    &'static [u64],
-    &'static [u64],
-    &'static str,
-);
+type Joined<'a> = (u64, &'a [u64], u64, &'a [u64], &'a [u64], &'a str);
 
 const JOINED: &[Joined] = &[
     (

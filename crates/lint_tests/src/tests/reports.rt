@@ -21,10 +21,7 @@ const INPUTS: &[(&str, &str)] = &[
 ];
 
 pub(super) fn ok<T>(answer: Result<T, OutOfMemory>) -> Result<T, Fail> {
-    match answer {
-        Ok(value) => Ok(value),
-        Err(_) => Err(Fail::from(AllocError)),
-    }
+    Ok(answer.map_err(|_| AllocError)?)
 }
 
 // Checks the lines of a report, as that of source 0.

@@ -32,10 +32,8 @@ impl<K: ArenaKey, V: Item, S: KeyHasher + Copy, C: ChunkSource> Kept<K, V, S, C>
         requires values_small { V.SIZE ≤ 2 ^ 24 }
         requires plain { (x : K) → (K.key.text x).size ≡ 0 }
     {
-        Kept {
-            a,
-            map: HashMap::new_in(),
-        }
+        let map = HashMap::new_in();
+        Kept { a, map }
     }
 
     // Replaces the map by one of an iterator's pairs.

@@ -29,10 +29,8 @@ impl<S: KeyHasher + Copy> Model for Texts<S> {
 
 impl<S: KeyHasher + Copy> Texts<S> {
     fn new(alloc: Global) -> Texts<S> {
-        Texts {
-            a: ample(alloc),
-            map: HashMap::new_in(),
-        }
+        let (a, map) = (ample(alloc), HashMap::new_in());
+        Texts { a, map }
     }
 
     // Places a text, inserts it as a key, and returns it with the call's result.

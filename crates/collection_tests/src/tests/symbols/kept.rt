@@ -25,10 +25,8 @@ impl<C: ChunkSource> Model for Texts<C> {
 
 impl<C: ChunkSource> Texts<C> {
     pub(super) fn new(a: Allocator<C>) -> Texts<C> {
-        Texts {
-            a,
-            symbols: Symbols::new_in(),
-        }
+        let symbols = Symbols::new_in();
+        Texts { a, symbols }
     }
 
     // Interns a text if it isn't too long, and returns its number.
@@ -73,10 +71,8 @@ impl<C: ChunkSource> Model for Nest<C> {
 
 impl<C: ChunkSource> Nest<C> {
     pub(super) fn new(a: Allocator<C>) -> Nest<C> {
-        Nest {
-            a,
-            scopes: Scopes::new_in(),
-        }
+        let scopes = Scopes::new_in();
+        Nest { a, scopes }
     }
 
     pub(super) fn enter(&mut self) -> Grown<()> {
@@ -116,10 +112,8 @@ impl<C: ChunkSource> Model for Both<C> {
 
 impl<C: ChunkSource> Both<C> {
     pub(super) fn new(a: Allocator<C>) -> Both<C> {
-        Both {
-            a,
-            names: Names::new_in(),
-        }
+        let names = Names::new_in();
+        Both { a, names }
     }
 
     pub(super) fn run(

@@ -1,9 +1,9 @@
 // A test of gates: two workers lint at the same time, since the gate holds the first source until the second is
 // finished.
-use super::over::{ALONE, Over, linted_over};
+use super::over::{Over, linted_over};
 use super::pools::{PAIR, PAIR_LINES};
 use arena_lint::Gate;
-use arena_pool::MemoryMaker;
+use arena_pool::{MemoryMaker, PoolKind};
 use std::sync::atomic::{AtomicU64, Ordering};
 use std::test::*;
 use std::thread;
@@ -39,19 +39,16 @@ impl Gate for FirstAfterSecond {
     }
 }
 
+const TWO: Over = (PoolKind::Standard, 2, 2);
+
 #[test]
 fn two_workers_lint_at_once(rt: HostRuntime) -> Result<(), Fail> {
-    let over = Over {
-        arenas: 2,
-        workers: 2,
-        ..ALONE
-    };
     let gate = FirstAfterSecond {
         finished: AtomicU64::new(0),
         seen: AtomicU64::new(0),
     };
     let maker = MemoryMaker::new(rt.alloc(), 1 << 20);
-    let told = linted_over(&rt, rt.alloc(), over, maker, &gate, PAIR.as_bytes())?;
+    let told = linted_over(&rt, rt.alloc(), TWO, maker, &gate, PAIR.as_bytes())?;
     assert!(rt; told.as_slice() == PAIR_LINES.as_bytes());
     assert!(rt; gate.seen.load(Ordering::SeqCst) == 1);
     Ok(())

@@ -30,21 +30,16 @@ fn ten_thousand(alloc: Global) -> Result<(Vec<u8>, Vec<u8>), Fail> {
     Ok((input, lines))
 }
 
-const POOLS: &[(PoolKind, u32)] = &[
-    (PoolKind::Standard, 64),
-    (PoolKind::FixedSize { bytes: 126_976 }, 1),
+const POOLS: &[Over] = &[
+    (PoolKind::Standard, 64, 64),
+    (PoolKind::FixedSize { bytes: 126_976 }, 1, 64),
 ];
 
 #[test]
 fn ten_thousand_sources_by_64_workers(rt: HostRuntime) -> Result<(), Fail> {
     let (input, lines) = ten_thousand(rt.alloc())?;
-    for (kind, arenas) in POOLS {
-        let over = Over {
-            kind: *kind,
-            arenas: *arenas,
-            workers: 64,
-        };
-        tells(&rt, rt.alloc(), over, 1 << 20, &input, &lines)?;
+    for over in POOLS {
+        tells(&rt, rt.alloc(), *over, 1 << 20, &input, &lines)?;
     }
     Ok(())
 }

@@ -18,20 +18,11 @@ use std::sync::ledger::Blank;
 use std::test::*;
 use std::thread::Threads;
 
-/// The pool, its arenas, and the number of workers.
-#[derive(Clone, Copy)]
-pub struct Over {
-    pub kind: PoolKind,
-    pub arenas: u32,
-    pub workers: u32,
-}
+/// The pool's kind, its arenas, and the number of workers.
+pub type Over = (PoolKind, u32, u32);
 
 /// One worker on a pool that begins with one arena.
-pub const ALONE: Over = Over {
-    kind: PoolKind::Standard,
-    arenas: 1,
-    workers: 1,
-};
+pub const ALONE: Over = (PoolKind::Standard, 1, 1);
 
 // Whether each source is short enough for a linter.
 fn are_short(sources: &[Source<'_>]) -> bool
@@ -63,16 +54,6 @@ fn lines_of<C: ChunkSource>(alloc: Global, all: &[Linted<C>]) -> Result<Vec<u8>,
     Ok(text)
 }
 
-fn count_starved<C: ChunkSource>(all: &[Linted<C>]) -> u64 {
-    let mut starved = 0u64;
-    for linted in all {
-        if linted.starved.is_some() {
-            starved = starved.saturating_add(1);
-        }
-    }
-    starved
-}
-
 // Returns the lines of the sources' reports over a pool. After that all arenas are given back, except those of starved
 // sources.
 fn lint_with<
@@ -84,18 +65,18 @@ fn lint_with<
     rt: &R,
     alloc: Global,
     pool: &AllocatorPool<K, L>,
-    over: Over,
+    workers: u32,
     gate: &G,
     input: &[u8],
 ) -> Result<Vec<u8>, Fail> {
-    let workers = over.workers;
     let sources = ok(sources_of(alloc, input))?;
     assert!(rt; workers > 0 && workers <= 64);
     assert!(rt; sources.len() < 1 << 20 && are_short(&sources));
     let linted = lint_all(rt, alloc, pool, workers, gate, &owned(alloc, &sources)?);
     let all = linted.ok().expect(rt, "reports");
+    let starved = all.iter().filter(|linted| linted.starved.is_some()).count();
     let counts = pool.counts(rt);
-    assert!(rt; counts.lent == 0 && counts.given_up == count_starved(&all));
+    assert!(rt; counts.lent == 0 && counts.given_up == starved as u64);
     lines_of(alloc, &all)
 }
 
@@ -115,18 +96,19 @@ fn lint_named<
     blank: Blank,
 ) -> Result<Vec<u8>, Fail>
     requires blank { IsBlankOf L.name L.parts blank }
-    requires kind { L.kind ≡ over.kind }
+    requires kind { L.kind ≡ over.0 }
     requires limit { L.limit ≡ None }
 {
-    let made = match over.kind {
-        PoolKind::Standard => AllocatorPool::<K, L>::new(alloc, over.arenas, maker, blank),
+    let (kind, arenas, workers) = over;
+    let made = match kind {
+        PoolKind::Standard => AllocatorPool::<K, L>::new(alloc, arenas, maker, blank),
         PoolKind::FixedSize { bytes } => {
             assert!(rt; bytes % 16 == 0 && bytes >= 48);
-            AllocatorPool::new_fixed_size(alloc, over.arenas, bytes, maker, blank)
+            AllocatorPool::new_fixed_size(alloc, arenas, bytes, maker, blank)
         }
     };
     let pool = made.ok().expect(rt, "a pool");
-    lint_with(rt, alloc, &pool, over, gate, input)
+    lint_with(rt, alloc, &pool, workers, gate, input)
 }
 
 /// Returns the lines of the reports of an input's sources over a new pool.
@@ -154,6 +136,6 @@ pub fn tells<R: Threads + Wait + Abort + Sync>(
     let maker = MemoryMaker::new(alloc, budget);
     let told = linted_over(rt, alloc, over, maker, &NoGate, input)?;
     let is_so = told.as_slice() == lines;
-    same_at(rt, (over.workers, budget), is_so, true);
+    same_at(rt, (over.2, budget), is_so, true);
     Ok(())
 }

@@ -1,5 +1,5 @@
 // Tests of the lines of reports over pools of both kinds, with few workers and many.
-use super::over::{Over, tells};
+use super::over::tells;
 use arena_lint::LintErr;
 use arena_pool::PoolKind;
 use std::test::*;
@@ -36,11 +36,7 @@ const ROWS: &[(PoolKind, u32, u32, &str, &str)] = &[
 #[test]
 fn reports_by_few_workers_and_many(rt: HostRuntime) -> Result<(), Fail> {
     for (kind, arenas, workers, input, lines) in ROWS {
-        let over = Over {
-            kind: *kind,
-            arenas: *arenas,
-            workers: *workers,
-        };
+        let over = (*kind, *arenas, *workers);
         let (input, lines) = (input.as_bytes(), lines.as_bytes());
         tells(&rt, rt.alloc(), over, 1 << 20, input, lines)?;
     }

@@ -1,6 +1,7 @@
 // Tests of sources on arenas that don't get their chunks, among others.
 use super::super::{Parts, text_of};
-use super::over::{ALONE, Over, tells};
+use super::over::tells;
+use arena_pool::PoolKind;
 use std::test::*;
 
 // A source of 2,000 statements, for which a first chunk isn't enough; one that isn't a program; an empty one, which
@@ -37,10 +38,7 @@ const BUDGETS: &[(u64, u32, &str)] = &[
 fn budgets(rt: HostRuntime) -> Result<(), Fail> {
     let input = text_of(&rt, rt.alloc(), INPUT);
     for (budget, workers, lines) in BUDGETS {
-        let over = Over {
-            workers: *workers,
-            ..ALONE
-        };
+        let over = (PoolKind::Standard, 1, *workers);
         let lines = lines.as_bytes();
         tells(&rt, rt.alloc(), over, *budget, &input, lines)?;
     }

@@ -3,7 +3,7 @@
 use super::super::{Parts, ample, fixed, refusing, same_at, text_of};
 use super::{SAMPLE, refused_in, shown, stopped_in};
 use arena_chunks::Allocator;
-use arena_tree::TreeErr;
+use arena_tree::TreeErr::{self, NumberTooBig, Syntax, TooDeep};
 
 /// A text, and the text of its tree.
 type Row = (&'static [u8], &'static [u8]);
@@ -34,23 +34,17 @@ fn printed(rt: HostRuntime) {
 type Refusal = (Parts<'static>, TreeErr);
 
 const REFUSED: &[Refusal] = &[
-    (&[(b"(1+2", 1)], TreeErr::Syntax { at: 4 }),
-    (&[(b"let let = 1;", 1)], TreeErr::Syntax { at: 4 }),
-    (&[(b"(", 65)], TreeErr::TooDeep { at: 64 }),
-    (&[(b"-", 65)], TreeErr::TooDeep { at: 64 }),
-    (&[(b"{", 64)], TreeErr::Syntax { at: 64 }),
-    (&[(b"{", 64), (b"a;(", 1)], TreeErr::TooDeep { at: 66 }),
-    (
-        &[(b"18446744073709551616;", 1)],
-        TreeErr::NumberTooBig { at: 0 },
-    ),
-    (
-        &[(b"a 18446744073709551616;", 1)],
-        TreeErr::Syntax { at: 2 },
-    ),
-    (&[(b"007;", 1)], TreeErr::Syntax { at: 0 }),
-    (&[(b"1a;", 1)], TreeErr::Syntax { at: 1 }),
-    (&[(b"a\t;", 1)], TreeErr::Syntax { at: 1 }),
+    (&[(b"(1+2", 1)], Syntax { at: 4 }),
+    (&[(b"let let = 1;", 1)], Syntax { at: 4 }),
+    (&[(b"(", 65)], TooDeep { at: 64 }),
+    (&[(b"-", 65)], TooDeep { at: 64 }),
+    (&[(b"{", 64)], Syntax { at: 64 }),
+    (&[(b"{", 64), (b"a;(", 1)], TooDeep { at: 66 }),
+    (&[(b"18446744073709551616;", 1)], NumberTooBig { at: 0 }),
+    (&[(b"a 18446744073709551616;", 1)], Syntax { at: 2 }),
+    (&[(b"007;", 1)], Syntax { at: 0 }),
+    (&[(b"1a;", 1)], Syntax { at: 1 }),
+    (&[(b"a\t;", 1)], Syntax { at: 1 }),
 ];
 
 #[test]

@@ -15,16 +15,12 @@ struct Word {
     value: Option<u64>,
 }
 
-fn is_digit(b: u8) -> bool {
-    b.is_ascii_digit()
-}
-
 fn is_letter(b: u8) -> bool {
     b.is_ascii_lowercase() || b == b'_'
 }
 
 fn goes_on(word: Word, b: u8) -> bool {
-    is_digit(b) || is_letter(b) && !word.number
+    b.is_ascii_digit() || is_letter(b) && !word.number
 }
 
 // The word with one more byte. A number's value is that of its digits. A name's value is that of its bytes as digits,
@@ -32,13 +28,8 @@ fn goes_on(word: Word, b: u8) -> bool {
 fn longer(word: Word, b: u8) -> Word {
     let base = if word.number { 10 } else { 256 };
     let digit = if word.number { b.wrapping_sub(b'0') } else { b };
-    let value = match word.value {
-        Some(v) => match v.checked_mul(base) {
-            Some(v) => v.checked_add(u64::from(digit)),
-            None => None,
-        },
-        None => None,
-    };
+    let shifted = word.value.and_then(|v| v.checked_mul(base));
+    let value = shifted.and_then(|v| v.checked_add(u64::from(digit)));
     let zero = word.zero || word.number && word.bytes == 1 && word.value == Some(0);
     Word {
         at: word.at,
@@ -52,7 +43,7 @@ fn longer(word: Word, b: u8) -> Word {
 fn first(b: u8, at: u64) -> Word {
     let word = Word {
         at,
-        number: is_digit(b),
+        number: b.is_ascii_digit(),
         bytes: 0,
         zero: false,
         value: Some(0),
@@ -210,10 +201,8 @@ impl Rest {
 
     // Reads the word that has ended, if there is one.
     fn word(&mut self, rt: &impl Abort, word: Option<Word>) -> Option<Refused> {
-        match word {
-            Some(w) => self.refused(rt, token(w), w.at),
-            None => None,
-        }
+        let word = word?;
+        self.refused(rt, token(word), word.at)
     }
 }
 
@@ -233,7 +222,7 @@ pub fn plain(rt: &impl Abort, alloc: Global, src: &[u8]) -> Option<Refused> {
                 if let Some(refused) = rest.word(rt, word) {
                     return Some(refused);
                 }
-                if is_digit(*b) || is_letter(*b) {
+                if b.is_ascii_digit() || is_letter(*b) {
                     Some(first(*b, at))
                 } else {
                     if *b != b' ' && *b != b'\n' {

@@ -5,4 +5,4 @@ abbrev pub ghosts-lint_named-L-Ledger : goal.ghosts-lint_named-L-Ledger
 ghosts-lint_named-L-Ledger g a = record { name = a.blank.name; parts = a.blank.parts }
 
 abbrev pub ghosts-lint_named-L-PoolName : goal.ghosts-lint_named-L-PoolName
-ghosts-lint_named-L-PoolName g a = record { kind = a.over.kind; limit = None }
+ghosts-lint_named-L-PoolName g a = record { kind = a.over.0; limit = None }
