@@ -36,7 +36,6 @@ fn layout(rt: &impl Abort, size: u64, align: u64) -> Layout
     Layout::new(size, align).expect(rt, "a layout")
 }
 
-// An allocator with ample memory.
 fn ample(alloc: Global) -> Allocator<MemoryChunks> {
     Allocator::new(alloc, MemoryChunks::new(alloc, 1 << 20))
 }
@@ -96,7 +95,6 @@ fn has<C: ChunkSource>(
     same_at(rt, what, found, (used, counts));
 }
 
-// Fails the test if the two values differ.
 fn same<T: Copy + PartialEq + Debug>(rt: &impl Abort, found: T, wanted: T) {
     same_at(rt, "a value", found, wanted);
 }

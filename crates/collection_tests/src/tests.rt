@@ -22,7 +22,6 @@ fn limited(alloc: Global, bytes: u64) -> Allocator<MemoryChunks> {
     Allocator::new(alloc, MemoryChunks::new(alloc, bytes))
 }
 
-// An allocator with ample memory.
 fn ample(alloc: Global) -> Allocator<MemoryChunks> {
     limited(alloc, 1 << 28)
 }
@@ -35,7 +34,6 @@ fn fixed(rt: &impl Abort, alloc: Global, bytes: usize) -> Allocator<MemoryChunks
     made.ok().expect(rt, "an arena")
 }
 
-// Fails the test if the two values differ.
 fn same<T: Copy + PartialEq + Debug>(rt: &impl Abort, found: T, wanted: T) {
     assert_eq!(rt; found, wanted);
 }

@@ -34,7 +34,6 @@ fn text_of(rt: &impl Abort, alloc: Global, parts: Parts<'_>) -> Vec<u8> {
     text
 }
 
-// An allocator with ample memory.
 fn ample(alloc: Global) -> Allocator<MemoryChunks> {
     Allocator::new(alloc, MemoryChunks::new(alloc, 1 << 31))
 }

@@ -63,7 +63,6 @@ fn words(alloc: Global, list: &[&str]) -> Result<Vec<Bytes>, Fail> {
     Ok(words)
 }
 
-// Fails the test unless the condition holds for the row.
 fn holds(rt: &impl Abort, is_so: bool, row: &str) {
     assert!(rt; is_so, "{row:?}");
 }

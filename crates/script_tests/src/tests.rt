@@ -12,7 +12,6 @@ use std::process::Abort;
 use std::test::Fail;
 use tables::{TABLES, Table};
 
-// Fails the test unless the condition holds for the row.
 fn holds(rt: &impl Abort, is_so: bool, row: &str) {
     assert!(rt; is_so, "{row:?}");
 }

@@ -80,7 +80,6 @@ fn holds(rt: &impl Abort, so: bool, what: &str) {
     assert!(rt; so, "{what}");
 }
 
-// Checks the text of an error.
 fn says<E: Display>(rt: &impl Abort, alloc: Global, error: &E, text: &str) -> Result<(), Fail> {
     let said = format!(in alloc; "{error}")?;
     assert!(rt; said.as_str() == text);

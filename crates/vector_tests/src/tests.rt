@@ -21,7 +21,6 @@ use std::alloc::Global;
 use std::fmt::Debug;
 use std::process::Abort;
 
-// An allocator with ample memory.
 fn ample(alloc: Global) -> Allocator<MemoryChunks> {
     Allocator::new(alloc, MemoryChunks::new(alloc, 1 << 20))
 }
@@ -35,21 +34,18 @@ fn held<C: ChunkSource>(rt: &impl Abort, a: &Allocator<C>, block: Block) -> Bloc
     block
 }
 
-// Fails the test if the index isn't below `len`.
 fn below(rt: &impl Abort, i: u32, len: u32)
     ensures { i < len }
 {
     assert!(rt; i < len, "an index");
 }
 
-// Fails the test if the number exceeds `most`.
 fn at_most(rt: &impl Abort, n: u32, most: u32)
     ensures { n ≤ most }
 {
     assert!(rt; n <= most, "a number that is at most another");
 }
 
-// Fails the test if the two values differ.
 fn same<T: Copy + PartialEq + Debug>(rt: &impl Abort, found: T, wanted: T) {
     same_at(rt, (), found, wanted);
 }

@@ -26,7 +26,6 @@ fn of_a_capacity(rt: HostRuntime) {
     same(&rt, (a.data_end(), a.capacity()), (4160, 64));
 }
 
-// Sets the second byte.
 fn set_second(bytes: &mut [u8], value: u8) {
     if let Some(byte) = bytes.get_mut(1) {
         *byte = value;

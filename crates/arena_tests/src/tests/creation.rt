@@ -25,7 +25,6 @@ const CAPACITIES: &[Capacity] = &[
     ((1 << 63) - 63, Err(0), &[]),
 ];
 
-// The first request is refused.
 const REFUSED: &[Capacity] = &[
     (10, Err(1), &[(64, 16)]),
     ((1 << 63) - 64, Err(1), &[((1 << 63) - 64, 16)]),

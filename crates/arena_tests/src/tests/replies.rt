@@ -172,7 +172,6 @@ fn reply(alloc: Global, says: &Says) -> Result<Reply, OutOfMemory> {
     })
 }
 
-// Checks that these are the replies to the lines.
 fn are_replies(rt: &impl Abort, alloc: Global, replies: &[Reply], lines: &[Line]) {
     for (n, (given, (_, says))) in replies.iter().zip(lines).enumerate() {
         let wanted = reply(alloc, says).expect(rt, "memory");

@@ -68,7 +68,6 @@ pub(super) const GIVEN_BACK: &[Step] = &[
     Step::Alloc(1, 1, Ok(20411)),
 ];
 
-// At least alignment 16.
 pub(super) const BY_16: &[Step] = &[
     Step::Case("grown to its own size and given back", &[]),
     Step::Alloc(3, 1, Ok(20400)),

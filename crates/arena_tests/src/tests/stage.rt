@@ -47,7 +47,6 @@ impl<const M: usize> Stage<M> {
         }
     }
 
-    // Takes a step.
     pub(super) fn take(&mut self, rt: &impl Abort, step: &Step) {
         self.at.1 = self.at.1.wrapping_add(1);
         match *step {

@@ -69,7 +69,6 @@ fn take<const M: usize>(rt: &impl Abort, alloc: Global, stage: &mut Stage<M>, st
     }
 }
 
-// Takes all steps of a table.
 pub(super) fn all_hold<const M: usize>(rt: &impl Abort, alloc: Global, steps: &[Step])
     requires { IsTrue (is_min_align M) }
 {

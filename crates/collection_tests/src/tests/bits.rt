@@ -35,7 +35,6 @@ fn join<C: ChunkSource>(rt: &impl Abort, a: &mut Allocator<C>, set: &mut BitSet,
     set.union(a, &other);
 }
 
-// Takes a step.
 pub(super) fn take<C: ChunkSource>(
     rt: &impl Abort,
     a: &mut Allocator<C>,

@@ -32,7 +32,6 @@ enum Step {
     Set(u64, u8),
 }
 
-// Takes a step.
 fn take<C: ChunkSource>(
     rt: &impl Abort,
     a: &mut Allocator<C>,
@@ -81,7 +80,6 @@ pub(super) fn has<C: ChunkSource>(
     same(rt, text.is_empty(), bytes.is_empty());
 }
 
-// Makes a text.
 pub(super) fn text_of<C: ChunkSource>(a: &mut Allocator<C>, how: &Make) -> Grown<StringBuilder> {
     match how {
         Make::Empty => Ok(StringBuilder::new_in()),
@@ -111,7 +109,6 @@ fn takes<C: ChunkSource>(
     has(rt, a, *text, bytes.as_bytes(), cap);
 }
 
-// Takes steps in order.
 fn runs<C: ChunkSource>(
     rt: &impl Abort,
     a: &mut Allocator<C>,

@@ -110,7 +110,6 @@ impl<C: ChunkSource> Job<C> for Watch {
     }
 }
 
-// Runs the words, and is watched.
 fn serve<R: Threads + Wait + Sync, I: Input, O: Output>(
     rt: &R,
     alloc: Global,

@@ -28,7 +28,6 @@ const SMALL: PoolKind = PoolKind::FixedSize { bytes: 112 };
 // The four counts of a pool, in the order made, stored, lent, given up.
 type All = (u64, u64, u64, u64);
 
-// Checks the counts.
 fn are_counts(rt: &impl Abort, counts: Counts, all: All) {
     let found = (counts.made, counts.stored, counts.lent, counts.given_up);
     if found != all {
@@ -49,7 +48,6 @@ fn are_values(rt: &impl Abort, back: Result<Vec<Option<u64>>, OutOfMemory>) {
     assert!(rt; are_same && back.len() == VALUES.len());
 }
 
-// Returns once the stage is at least `least`.
 fn wait_until<R: Wait>(rt: &R, stage: &AtomicU64, least: u64) {
     for _ in rt.forever() {
         if stage.load(Ordering::SeqCst) >= least {

@@ -103,7 +103,6 @@ pub fn read<T: Item, C: ChunkSource>(rt: &impl Abort, a: &Allocator<C>, b: Box<T
     get_checked(a, b).expect(rt, "a box that is held")
 }
 
-// Whether a list has these values.
 pub fn is_list<T: Item + PartialEq, C: ChunkSource>(
     rt: &impl Abort,
     a: &Allocator<C>,
@@ -154,7 +153,6 @@ pub fn copy<T: Checked, C: ChunkSource, D: ChunkSource>(
     }
 }
 
-// Copies a value within its arena.
 pub fn copy_within<T: Checked, C: ChunkSource>(
     rt: &impl Abort,
     value: &T,

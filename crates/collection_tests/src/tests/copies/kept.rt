@@ -71,7 +71,6 @@ impl<K: ArenaKey, V: Item> Model for Kept<K, V> {
 }
 
 impl<K: CheckedKey, V: Checked + Item> Kept<K, V> {
-    // An empty map with this capacity.
     pub fn with_capacity(rt: &impl Abort, alloc: Global, capacity: u64) -> Kept<K, V> {
         assert!(rt; K::SIZE <= 1 << 24 && V::SIZE <= 1 << 24);
         let mut a = ample(alloc);

@@ -26,7 +26,6 @@ impl<K: ArenaKey, V: Item, S: KeyHasher + Copy, C: ChunkSource> Model for Kept<K
 }
 
 impl<K: ArenaKey, V: Item, S: KeyHasher + Copy, C: ChunkSource> Kept<K, V, S, C> {
-    // An empty map.
     pub(super) fn new(a: Allocator<C>) -> Kept<K, V, S, C>
         requires keys_small { K.SIZE ≤ 2 ^ 24 }
         requires values_small { V.SIZE ≤ 2 ^ 24 }
@@ -79,5 +78,4 @@ impl<K: ArenaKey, V: Item, S: KeyHasher + Copy, C: ChunkSource> Kept<K, V, S, C>
     }
 }
 
-// A map of numbers.
 pub(super) type Numbers<S> = Kept<u32, u32, S, MemoryChunks>;

@@ -45,7 +45,6 @@ fn owned(alloc: Global, sources: &[Source<'_>]) -> Result<Vec<Bytes>, Fail>
     Ok(all)
 }
 
-// Returns the lines of all reports.
 fn lines_of<C: ChunkSource>(alloc: Global, all: &[Linted<C>]) -> Result<Vec<u8>, Fail> {
     let mut text = Vec::new(alloc);
     for (i, linted) in all.iter().enumerate() {

@@ -23,7 +23,6 @@ impl<C: ChunkSource> Model for KeptTree<C> {
 }
 
 impl<C: ChunkSource> KeptTree<C> {
-    // Returns the tree of a program.
     pub(super) fn of(rt: &impl Abort, mut a: Allocator<C>, src: &[u8]) -> KeptTree<C> {
         assert!(rt; src.len() <= 1 << 24);
         match Tree::parse(&mut a, src) {
@@ -42,7 +41,6 @@ impl<C: ChunkSource> KeptTree<C> {
         self.tree.clone_in(&self.a, b).err()
     }
 
-    // Returns a copy in another arena.
     pub(super) fn copied<D: ChunkSource>(
         &self,
         rt: &impl Abort,

@@ -39,7 +39,6 @@ fn book_of(rt: &impl Abort, alloc: Global, plan: Plan) -> Book<MemoryMaker>
     }
 }
 
-// Returns what the book lends.
 #[tactic(auto, using(arena_pool::proofs::Layers::event_laws))]
 fn lend(book: &mut Book<MemoryMaker>, kind: PoolKind) -> Result<Lent, PoolErr>
     requires { book.old.kind ≡ kind }
@@ -50,7 +49,6 @@ fn lend(book: &mut Book<MemoryMaker>, kind: PoolKind) -> Result<Lent, PoolErr>
     Ok(Lent { arena, id, kind })
 }
 
-// Gives a lent arena back.
 #[tactic(auto, using(arena_pool::proofs::Layers::event_laws))]
 fn store(rt: &impl Abort, book: &mut Book<MemoryMaker>, kind: PoolKind, lent: Lent)
     requires { book.old.kind ≡ kind }

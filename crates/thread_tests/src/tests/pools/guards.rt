@@ -18,7 +18,6 @@ use std::sync::Wait;
 use std::sync::ledger::Blank;
 use std::test::*;
 
-// Checks the counts of a pool.
 fn has_counts<K: ChunkMaker, L: PoolName, R: Wait + Abort>(
     rt: &R,
     pool: &AllocatorPool<K, L>,
@@ -27,7 +26,6 @@ fn has_counts<K: ChunkMaker, L: PoolName, R: Wait + Abort>(
     are_counts(rt, pool.counts(rt), counts);
 }
 
-// Returns an arena that the pool lends.
 fn lent<'a, K: ChunkMaker, L: PoolName, R: Wait + Abort>(
     rt: &R,
     pool: &'a AllocatorPool<K, L>,
@@ -41,7 +39,6 @@ fn lent<'a, K: ChunkMaker, L: PoolName, R: Wait + Abort>(
 // after one of a byte, whether it is given up, and the pool's counts while the guard is held and after that.
 type Borrow = (Option<u32>, u64, Option<u64>, bool, All, All);
 
-// Returns the id of a guard.
 fn id_of<K: ChunkMaker, L: PoolName>(guard: &AllocatorGuard<'_, K, L>) -> Option<u32> {
     guard.fixed_size_metadata().map(|metadata| metadata.id)
 }

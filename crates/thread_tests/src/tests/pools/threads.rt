@@ -117,7 +117,6 @@ fn crowds(rt: HostRuntime) {
     }
 }
 
-// Yields to other threads many times.
 fn yields() {
     for _ in 0..1000 {
         thread::yield_now();

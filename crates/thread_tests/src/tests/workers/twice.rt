@@ -46,7 +46,6 @@ fn are_lines<C: ChunkSource>(alloc: Global, all: &[Served<C>]) -> Result<bool, F
     Ok(text.as_slice() == LINES.as_bytes())
 }
 
-// Runs the scripts once.
 fn run_once<
     K: ChunkMaker + Drop + Send,
     L: PoolName + Send + Sync,
