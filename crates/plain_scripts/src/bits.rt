@@ -37,6 +37,7 @@ fn united(end: u64, bits: &Names<()>, more: &Names<()>) -> Result<Names<()>, Out
 }
 
 // The bits below the capacity.
+#[tactic(auto, using(crate::proofs::LoopLemmas::members_without))]
 fn members(alloc: Global, bits: &Names<()>, capacity: u32) -> Result<Vec<u64>, OutOfMemory>
     ensures { IfOk result (λ all. all.items ≡ members (has bits.now) 0 capacity) }
 {

@@ -1,64 +1,13 @@
-// Copies of lists, with a change.
-ghost use Rattle.std.specs.Prelude.{◌≡◌, ◌<◌, ◌≤◌, ◌∷◌, [], ◌++◌, IfOk, length, take, set};
-ghost use Rattle.std.specs.List.{insert, remove};
+// Copies of lists.
+ghost use Rattle.std.specs.Prelude.{◌≡◌, ◌++◌, IfOk, take};
 
 use arena_rules::OutOfMemory;
 use std::alloc::Global;
 
-// A copy of the items.
 pub(crate) fn copied<T: Copy>(alloc: Global, old: &[T]) -> Result<Vec<T>, OutOfMemory>
     ensures { IfOk result (λ all. all.items ≡ old.now) }
 {
     Ok(Vec::from_slice(alloc, old)?)
-}
-
-// The items and one more.
-pub(crate) fn pushed(alloc: Global, old: &[u32], value: u32) -> Result<Vec<u32>, OutOfMemory>
-    ensures { IfOk result (λ all. all.items ≡ old.now ++ value ∷ []) }
-{
-    let mut all = copied(alloc, old)?;
-    all.push(value)?;
-    Ok(all)
-}
-
-// The items with one more at an index.
-pub(crate) fn inserted(
-    alloc: Global,
-    old: &[u32],
-    at: usize,
-    value: u32,
-) -> Result<Vec<u32>, OutOfMemory>
-    requires { at ≤ length old.now }
-    ensures { IfOk result (λ all. all.items ≡ insert old.now at value) }
-{
-    let mut all = copied(alloc, old)?;
-    all.insert(at, value)?;
-    Ok(all)
-}
-
-// The items without the one at an index.
-pub(crate) fn removed(alloc: Global, old: &[u32], at: usize) -> Result<Vec<u32>, OutOfMemory>
-    requires { at < length old.now }
-    ensures { IfOk result (λ all. all.items ≡ remove old.now at) }
-{
-    let mut all = copied(alloc, old)?;
-    all.remove(at);
-    Ok(all)
-}
-
-// The items with another one at an index.
-pub(crate) fn replaced(
-    alloc: Global,
-    old: &[u32],
-    at: usize,
-    value: u32,
-) -> Result<Vec<u32>, OutOfMemory>
-    requires { at < length old.now }
-    ensures { IfOk result (λ all. all.items ≡ set old.now at value) }
-{
-    let mut all = copied(alloc, old)?;
-    all[at] = value;
-    Ok(all)
 }
 
 // The first `len` items, or all.

@@ -6,7 +6,7 @@ ghost use Rattle.script_rules.specs.Objects.{get};
 ghost use Rattle.script_rules.specs.Effects as effects;
 ghost use Rattle.plain_scripts.specs.Answers.{effect_of};
 
-use crate::copies::{first, inserted, pushed, removed, replaced};
+use crate::copies::{copied, first};
 use crate::effect::{PlainEffect, content, gives, number_or_nothing};
 use crate::machine::PlainScripts;
 use crate::object::Kind;
@@ -39,7 +39,8 @@ impl PlainScripts {
         if items.len() >= MOST_ITEMS {
             return Ok(PlainEffect::Tells(ScriptReply::CapacityOverflow));
         }
-        let items = pushed(alloc, items, value)?;
+        let mut items = copied(alloc, items)?;
+        items.push(value)?;
         Ok(gives(name, Kind::List(items), ScriptReply::Done, 24))
     }
 
@@ -60,7 +61,8 @@ impl PlainScripts {
         if items.len() >= MOST_ITEMS {
             return Ok(PlainEffect::Tells(ScriptReply::CapacityOverflow));
         }
-        let items = inserted(alloc, items, at as usize, value)?;
+        let mut items = copied(alloc, items)?;
+        items.insert(at as usize, value)?;
         Ok(gives(name, Kind::List(items), ScriptReply::Done, 24))
     }
 
@@ -85,7 +87,8 @@ impl PlainScripts {
         let Some(item) = items.get(at as usize) else {
             return Ok(PlainEffect::Tells(ScriptReply::OutOfRange));
         };
-        let rest = removed(alloc, items, at as usize)?;
+        let mut rest = copied(alloc, items)?;
+        rest.remove(at as usize);
         Ok(gives(name, Kind::List(rest), ScriptReply::Number(*item as u64), 0))
     }
 
@@ -112,7 +115,8 @@ impl PlainScripts {
         if items.get(at as usize).is_none() {
             return Ok(PlainEffect::Tells(ScriptReply::OutOfRange));
         }
-        let items = replaced(alloc, items, at as usize, value)?;
+        let mut items = copied(alloc, items)?;
+        items[at as usize] = value;
         Ok(gives(name, Kind::List(items), ScriptReply::Done, 0))
     }
 

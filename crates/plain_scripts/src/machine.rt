@@ -89,7 +89,6 @@ impl PlainScripts {
         }
     }
 
-    // The effect of a command.
     fn effect(&self, alloc: Global, command: &Command) -> Result<PlainEffect, OutOfMemory>
         ensures { IfOk result (λ e. effect_of e ≡ effects.effect command.now (get self.now)) }
     {

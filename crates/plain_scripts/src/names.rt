@@ -28,6 +28,7 @@ impl<V> Model for Names<V> {
 }
 
 impl<V: Drop> Names<V> {
+    #[tactic(auto, using(script_rules::proofs::TableLemmas::entries_none))]
     pub(crate) fn new(alloc: Global) -> Names<V>
         ensures { result ≡ [] }
     {
@@ -36,6 +37,7 @@ impl<V: Drop> Names<V> {
         }
     }
 
+    #[tactic(auto, using(crate::proofs::TreeLemmas::tree_get))]
     pub(crate) fn get(&self, name: u32) -> Option<&V>
         ensures { option_copied result ≡ get self.now name }
     {
@@ -43,6 +45,7 @@ impl<V: Drop> Names<V> {
     }
 
     /// Returns how many names hold a value.
+    #[tactic(auto, using(call_rules::proofs::MapLemmas::tree_entries))]
     pub(crate) fn len(&self) -> usize
         ensures { result ≡ length self.now }
     {
@@ -50,6 +53,7 @@ impl<V: Drop> Names<V> {
     }
 
     /// Sets the value of a name. Where memory runs out, the map is unchanged.
+    #[tactic(auto, using(script_rules::proofs::TableLemmas::tree_bind))]
     pub(crate) fn insert(&mut self, name: u32, value: V) -> Result<(), OutOfMemory>
         ensures ok { OnOk result (self.new ≡ bind self.old name value) }
         ensures err { OnErr result (self.new ≡ self.old) }
@@ -58,6 +62,7 @@ impl<V: Drop> Names<V> {
         Ok(())
     }
 
+    #[tactic(auto, using(crate::proofs::TreeLemmas::tree_unbind))]
     pub(crate) fn remove(&mut self, name: u32)
         ensures { self.new ≡ unbind self.old name }
     {

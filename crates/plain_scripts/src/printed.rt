@@ -9,6 +9,7 @@ use call_rules::Bytes;
 use std::alloc::Global;
 
 // Whether a byte isn't zero.
+#[tactic(auto, using(crate::proofs::LoopLemmas::some_here, crate::proofs::LoopLemmas::some_later, crate::proofs::LoopLemmas::some_none))]
 fn has_byte(bits: &Names<()>, k: u64) -> bool
     requires { 8 * k + 8 ≤ 2 ^ 32 }
     ensures { result ≡ has_byte (has bits.now) k }
@@ -22,6 +23,7 @@ fn has_byte(bits: &Names<()>, k: u64) -> bool
 }
 
 // The highest of the first `bytes` bytes that isn't zero, or 0 where all are.
+#[tactic(auto, using(crate::proofs::LoopLemmas::highest_below, crate::proofs::LoopLemmas::highest_none))]
 fn highest(bits: &Names<()>, bytes: u64) -> u64
     requires { 8 * bytes ≤ 2 ^ 32 }
     ensures value { result ≡ highest (has bits.now) bytes }
@@ -43,6 +45,7 @@ fn digit(is_set: bool) -> u8
 }
 
 // Appends the binary digits of the `n` bits from this one on, the highest first.
+#[tactic(auto, using(crate::proofs::LoopLemmas::digits_none))]
 fn push_digits(text: &mut Bytes, bits: &Names<()>, from: u64, n: u64) -> Result<(), OutOfMemory>
     requires { from + n ≤ 2 ^ 32 }
     ensures { OnOk result (text.new ≡ text.old ++ digits (has bits.now) from n) }
@@ -54,6 +57,7 @@ fn push_digits(text: &mut Bytes, bits: &Names<()>, from: u64, n: u64) -> Result<
 }
 
 // Appends each of the `k` lowest bytes, after a `_`, the highest of them first.
+#[tactic(auto, using(crate::proofs::LoopLemmas::lower_more, crate::proofs::LoopLemmas::lower_none))]
 fn push_lower(text: &mut Bytes, bits: &Names<()>, k: u64) -> Result<(), OutOfMemory>
     requires { 8 * k ≤ 2 ^ 32 }
     ensures { OnOk result (text.new ≡ text.old ++ lower (has bits.now) k) }
@@ -66,6 +70,7 @@ fn push_lower(text: &mut Bytes, bits: &Names<()>, k: u64) -> Result<(), OutOfMem
 }
 
 // The printed form of a set of this many words.
+#[tactic(auto, using(crate::proofs::LoopLemmas::printed_none, crate::proofs::LoopLemmas::printed_some))]
 pub(crate) fn printed(alloc: Global, words: u64, bits: &Names<()>) -> Result<Bytes, OutOfMemory>
     requires { 64 * words ≤ 2 ^ 32 }
     ensures { IfOk result (λ text. text ≡ printed words (has bits.now)) }

@@ -2,14 +2,8 @@ use Rattle.std.proofs.Common.{◌≡◌, ◌∙◌, ◌++◌, ◌+◌, [], ◌�
 use Rattle.std.proofs.lemmas.Grind.{common_steps}
 use Rattle.arena_rules.specs.Bits.{members}
 use Rattle.script_rules.specs.Objects.{has}
-use Rattle.plain_scripts.proofs.LoopLemmas.{members_with, members_without, members_none}
+use Rattle.plain_scripts.proofs.LoopLemmas.{members_with, members_none}
 use Rattle.plain_scripts.proofs.bits.members.Goals as goal
-
-pub loop-bit-preserved-then-not-has : goal.loop-bit-preserved-then-not-has
-loop-bit-preserved-then-not-has c =
-    ap (λ more. c.loop-bit.all.items ++ more)
-    (sym (members_without (has c.args.bits.now) c.loop-bit.bit c.args.capacity c.loop-bit-test.true (sym c.if-not-has.ensures)))
-    ∙ c.loop-bit.invariant
 
 pub loop-bit-preserved : goal.loop-bit-preserved
 loop-bit-preserved c =
