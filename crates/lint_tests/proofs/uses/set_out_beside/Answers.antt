@@ -1,11 +1,7 @@
-use Rattle.std.proofs.Common.{◌≡◌, ap, ◌∙◌, Result, Ok, [], ◌∷◌}
-use Rattle.tree_rules.specs.Trees.{Stmts, folded_stmts, text}
-use Rattle.tree_rules.specs.declared.refused.Refused.{Refused}
+use Rattle.std.proofs.Common.{◌≡◌, ap, ◌∙◌, Ok, [], ◌∷◌}
+use Rattle.tree_rules.specs.Trees.{folded_stmts, text}
 use Rattle.arena_tree.specs.Folding.{lists_of}
 use Rattle.lint_tests.proofs.uses.set_out_beside.Goals as goal
-
-same_trees : (s t : Stmts) → ◌≡◌ {A = Result Stmts Refused} (Ok s) (Ok t) → s ≡ t
-same_trees s t same = cc
 
 pub fold-requires : goal.fold-requires
 fold-requires g c =
@@ -16,7 +12,7 @@ pub returns-in-Ok-print-clause-tree : goal.returns-in-Ok-print-clause-tree
 returns-in-Ok-print-clause-tree g c = λ trees reads.
     let p = c.in_ok-tree.ensures.parses in
     let stays = c.tree_law.ensures.placed _ _ _ c.in_ok-tree.tree p.0 c.in-Ok.ensures.frame c.in_ok-tree.ensures.tree p.2.stand in
-    let same = same_trees p.0 trees (c.one_reading.ensures c.args.src.now (Ok p.0) (Ok trees) p.1 reads) in
+    let same : p.0 ≡ trees = cc (c.one_reading.ensures c.args.src.now (Ok p.0) (Ok trees) p.1 reads) in
     c.in-Ok-print.ensures (folded_stmts p.0) (c.fold.ensures.folded p.0 stays.means).means ∙ ap (λ t. text (folded_stmts t)) same
 
 pub returns-in-Ok-print-clause-list : goal.returns-in-Ok-print-clause-list
