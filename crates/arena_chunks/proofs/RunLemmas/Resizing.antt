@@ -6,9 +6,6 @@ use Rattle.std.specs.FinMap as finite
 use Rattle.std.proofs.lemmas.Bool.Decides.{nat_tests}
 use Rattle.std.proofs.lemmas.List.{length-replicate}
 use Rattle.arena_rules.specs.Rounding.{is_layout}
-use Rattle.arena_rules.specs.State.{IsValid}
-use Rattle.arena_rules.specs.Back.{Point, accepts, KeepsMark}
-use Rattle.arena_rules.specs.Blocks.{IsMovedBlock}
 use Rattle.arena_rules.specs.Moves.{resize, grow, growing, shrink, shrinking}
 use Rattle.arena_rules.specs.Moves.Resizing.{Anew}
 use Rattle.arena_rules.specs.Statistics.{Statistics}
@@ -25,7 +22,6 @@ use Rattle.arena_rules.proofs.MoveLemmas.{grow_moved, shrink_moved}
 use Rattle.arena_rules.proofs.PlacedLemmas.{resize_at_cursor, grow_at_cursor}
 use Rattle.arena_store.specs.Memory.{Memory, Writes, image, bytes_from, block_at}
 use Rattle.arena_store.specs.Source.{Source, view}
-use Rattle.arena_core.specs.Frame.{Frame}
 use Rattle.arena_core.specs.Answers.Answer.{Placed as PlacedAt, Refused}
 use Rattle.arena_core.specs.BlockCalls.{ResizesAfter, WritesBlock}
 use Rattle.arena_chunks.specs.Runs.{HoldsBytes}
@@ -37,21 +33,7 @@ use Rattle.arena_chunks.proofs.RunLemmas.Log.{notes_still, inserted_at_cursor, i
 use Rattle.arena_core.proofs.FrameLemmas.{apart_unpadded}
 use Rattle.arena_core.proofs.WrittenLemmas.{bytes_filled, take_bytes}
 use Rattle.arena_chunks.proofs.RunLemmas.Serving.{serves_placed, asks_none, serves_still, found_at}
-use Rattle.arena_chunks.proofs.RunLemmas.Change.{IsChange, change_written, change_placed}
-
--- a block in place of the name's
-change_moved : (old new : Memory) (names : Held) (name size align p : ℕ) (a : Place) (blocks : List Block) → Holds old.state names
-    → finite.get names name ≡ Some a
-    → true ≡ is_layout size align → IsMovedBlock old.state a size align p new.state → IsValid new.state
-    → Frame old new (block_at old.state.generation a ∷ []) blocks
-    → ((mark : Point) → IsTrue (accepts mark old.state) → KeepsMark mark old.state new.state)
-    → IsChange old new names (finite.insert names name (record { addr = p; size = size; align = align })) name a
-    (record { addr = p; size = size; align = align })
-change_moved old new names name size align p a blocks holds found good moved valid frame marks =
-    change_placed old new names name size align p a (block_at old.state.generation a ∷ []) blocks holds
-    (λ filled. found) good moved valid frame
-    (λ addr n beside. (apart_unpadded old.state a.addr a.size addr n holds.valid beside, tt))
-    marks
+use Rattle.arena_chunks.proofs.RunLemmas.Change.{change_written, change_placed}
 
 serves_grow : (old mid new : Memory) (names : Held) (name size align fill k : ℕ) (a : Place) (block : Block) (before later : Source)
     → Holds old.state names
@@ -77,7 +59,8 @@ serves_grow old mid new names name size align fill k a block before later holds 
     (layout_power size align (sym good)) resized.step in
     let served = serves_placed (Grow name size align fill) k old new names name a b before later holds
     (change_written old mid new names _ name a b a.size (replicate (size - a.size) fill) holds.valid
-    (change_moved old mid names name size align p a (block ∷ []) holds found good moved resizes.valid.exit resized.frame
+    (change_placed old mid names name size align p a (block_at old.state.generation a ∷ []) (block ∷ []) holds (λ filled. found)
+    good moved resizes.valid.exit resized.frame (λ addr n beside. (apart_unpadded old.state a.addr a.size addr n holds.valid beside, tt))
     (λ mark accepted. resize_keeps mark (growing old.state a.addr a.size a.align size align) old.state a.addr size align k
     (record { answer = Some p; state = mid.state }) accepted resized.step))
     (omega arith) same writes)
@@ -114,7 +97,8 @@ serves_shrink old new names name size align k a block before later holds found g
     let moved = shrink_moved old.state a size align k (record { answer = Some p; state = new.state }) holds.valid
     (holds.each name a found) smaller (layout_power size align (sym good)) resized.step in
     let served = serves_placed (Shrink name size align) k old new names name a b before later holds
-    (change_moved old new names name size align p a (block ∷ []) holds found good moved resizes.valid.exit resized.frame
+    (change_placed old new names name size align p a (block_at old.state.generation a ∷ []) (block ∷ []) holds (λ filled. found)
+    good moved resizes.valid.exit resized.frame (λ addr n beside. (apart_unpadded old.state a.addr a.size addr n holds.valid beside, tt))
     (λ mark accepted. resize_keeps mark (shrinking old.state a.addr a.size a.align size align) old.state a.addr size align k
     (record { answer = Some p; state = new.state }) accepted resized.step))
     (λ marks bytes held. found_at old names marks bytes name k a _ held found
