@@ -96,40 +96,38 @@ running_more entry old new names others noted later calls call replies reply run
     }
 
 -- the machine of the arena and its names, and what else is true of the run
-stands : (entry now : View) (names : Held) (noted : Noted) (calls : List Call) (replies : List Reply)
-    → (running : IsRunning entry now names noted calls replies)
-    → StandsFor now.memory (machine_of now.memory names (named noted.marks) running.bytes)
-stands entry now names noted calls replies running = record {
-  state = refl;
-  valid = running.holds.valid;
-  sound = record {
-    aligned = λ q p at. (running.holds.each q p at).aligned;
-    used = λ q p at. (running.holds.each q p at).used;
-    apart = running.holds.apart;
-  };
-  bytes = running.held;
-}
+module _ (entry now : View) (names : Held) (noted : Noted) (calls : List Call) (replies : List Reply)
+    (running : IsRunning entry now names noted calls replies) where
+  stands : StandsFor now.memory (machine_of now.memory names (named noted.marks) running.bytes)
+  stands = record {
+    state = refl;
+    valid = running.holds.valid;
+    sound = record {
+      aligned = λ q p at. (running.holds.each q p at).aligned;
+      used = λ q p at. (running.holds.each q p at).used;
+      apart = running.holds.apart;
+    };
+    bytes = running.held;
+  }
 
-leaves : (entry now : View) (names : Held) (noted : Noted) (calls : List Call) (replies : List Reply)
-    → IsRunning entry now names noted calls replies → RunLeaves entry now calls (told replies)
-leaves entry now names noted calls replies running = record {
-  asked = running.asked;
-  statistics = running.statistics;
-  kept = λ kept. (running.keeps kept).0.kept;
-  doubling = λ least small made double. run_doubling least (fresh entry.memory.state) calls
-      (told replies) replies _ small double running.ran made;
-}
+  leaves : RunLeaves entry now calls (told replies)
+  leaves = record {
+    asked = running.asked;
+    statistics = running.statistics;
+    kept = λ kept. (running.keeps kept).0.kept;
+    doubling = λ least small made double. run_doubling least (fresh entry.memory.state) calls
+        (told replies) replies _ small double running.ran made;
+  }
 
-pub running_over : (entry now : View) (names : Held) (noted : Noted) (calls : List Call) (replies : List Reply) (blocks : List (ℕ × Block))
-    → IsRunning entry now names noted calls replies → blocks ≡ held_blocks now.memory.state.generation names
-    → Runs entry now calls replies blocks
-running_over entry now names noted calls replies blocks running held = record {
-  last = machine_of now.memory names (named noted.marks) running.bytes;
-  ran = running.ran;
-  stands = stands entry now names noted calls replies running;
-  held = held;
-  leaves = leaves entry now names noted calls replies running;
-}
+  pub running_over : (blocks : List (ℕ × Block)) → blocks ≡ held_blocks now.memory.state.generation names
+      → Runs entry now calls replies blocks
+  running_over blocks held = record {
+    last = machine_of now.memory names (named noted.marks) running.bytes;
+    ran = running.ran;
+    stands = stands;
+    held = held;
+    leaves = leaves;
+  }
 
 -- The next call, or what is made of the replies, finds no memory: before the first call, at one that takes memory, or
 -- after the last.

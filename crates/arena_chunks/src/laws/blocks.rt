@@ -63,6 +63,7 @@ pub fn readable()
 
 /// A block has as many bytes as its size. They are the same in two arenas that have the same bytes at its addresses.
 /// Those of a range are that part of all of them.
+#[tactic(auto, using(crate::proofs::Layers::layer_laws, crate::proofs::Layers::bytes_same, crate::proofs::Layers::bytes_within))]
 pub fn bytes()
     ensures length { (memory : Memory) (addr n : ℕ) → length (bytes_from (image memory) addr n) ≡ n }
     ensures same { (a c : Memory) (b : Block)

@@ -2,12 +2,12 @@ use Rattle.std.proofs.Common.{◌≡◌, false, refl, arith}
 use Rattle.std.specs.Option.{is_some}
 use Rattle.std.specs.FinMap as map
 use Rattle.std.proofs.lemmas.Bool.{or_left}
+use Rattle.std.proofs.lemmas.Result.{on_err_weaker, on_ok_weaker}
 use Rattle.call_rules.specs.Machine.{step}
 use Rattle.call_rules.specs.Requests.{placed_anew}
 use Rattle.arena_store.specs.Source.{view}
 use Rattle.arena_chunks.specs.Runs.Replies.{has_bytes}
 use Rattle.arena_chunks.specs.Runs.Serving.{ServesRun}
-use Rattle.arena_core.proofs.AnswerLemmas.{on_err_less, on_ok_less}
 use Rattle.call_rules.proofs.HeldLemmas.{less_removed}
 use Rattle.arena_chunks.proofs.RunLemmas.Log.{notes_still}
 use Rattle.arena_chunks.proofs.RunLemmas.Marking.{marks_still, run_served}
@@ -17,13 +17,13 @@ use Rattle.arena_chunks.proofs.runs.serve.serve_into.Goals.{in-Alloc+in_ok-reply
 
 pub returns-in-Read-clause-serves : goal.returns-in-Read-clause-serves
 returns-in-Read-clause-serves g c = rw c.in-Read.is
-    (on_ok_less c.serve_read.result (λ served.
+    (on_ok_weaker c.serve_read.result (λ served.
     (served.0, run_served _ _ _ _ _ _ _ _ c.requires.tracks served.1 (notes_still _ _ _ _ (λ q p at. at)), served.2))
     (c.serve_read.ensures.serves _))
 
 pub returns-in-Read-clause-wants : goal.returns-in-Read-clause-wants
 unfolding placed_anew
-returns-in-Read-clause-wants g c = on_err_less c.serve_read.result
+returns-in-Read-clause-wants g c = on_err_weaker c.serve_read.result
     (λ held. record {
       takes = λ bytes. rw c.in-Read.is (or_left (is_some (map.get c.args.run.now.names c.in-Read.name)) _ held);
       same = refl;

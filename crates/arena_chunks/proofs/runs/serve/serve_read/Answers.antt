@@ -1,11 +1,11 @@
 use Rattle.std.proofs.Common.{arith, sym, ◌∙◌, refl}
+use Rattle.std.proofs.lemmas.Result.{on_ok_weaker}
 use Rattle.call_rules.specs.Machine.{step}
 use Rattle.call_rules.specs.Requests.{placed_anew}
 use Rattle.call_rules.specs.declared.calls.Reply.TheVariants.{Bytes, NoSuchName}
 use Rattle.call_rules.specs.declared.calls.Call.TheVariants.{Read}
 use Rattle.arena_store.specs.Source.{view}
 use Rattle.arena_chunks.specs.Runs.Serving.{Serves}
-use Rattle.arena_core.proofs.AnswerLemmas.{on_ok_less}
 use Rattle.arena_chunks.proofs.RunLemmas.Serving.{readable_at, asks_none, serves_still, absent_at, found_at}
 use Rattle.arena_chunks.proofs.runs.serve.serve_read.Goals as goal
 
@@ -34,4 +34,4 @@ returns-clause-serves g c = λ source.
     serves_still _ _ _ _ _ _ c.requires.holds (λ marks bytes held.
     found_at c.args.arena.now c.args.names.now marks bytes c.args.name 0 c.in-Some.place _ held (sym c.get.ensures ∙ c.in-Some.is)
     ∙ rw (c.read.ensures, c.block_at.ensures) refl) (asks_none _ _ _ _ _ _ refl refl (λ marks bytes. refl) (λ marks bytes. refl)) in
-    on_ok_less c.take_bytes.result (λ taken. (Bytes c.read.result.now, serves, taken)) c.take_bytes.ensures.taken
+    on_ok_weaker c.take_bytes.result (λ taken. (Bytes c.read.result.now, serves, taken)) c.take_bytes.ensures.taken

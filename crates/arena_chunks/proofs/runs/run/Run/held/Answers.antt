@@ -4,7 +4,7 @@ use Rattle.arena_chunks.proofs.runs.run.Run.held.Goals as goal
 
 pub returns-clause-ok : goal.returns-clause-ok
 returns-clause-ok g c = λ source entry calls replies running.
-    running_over entry _ _ _ calls replies c.in_ok-held.held.items running (rw c.generation.ensures at c.in_ok-held.ensures)
+    running_over entry _ _ _ calls replies running c.in_ok-held.held.items (rw c.generation.ensures at c.in_ok-held.ensures)
 
 pub returns-in_err-held-clause-err : goal.returns-in_err-held-clause-err
 returns-in_err-held-clause-err g c = λ source. on_err c.from_residual.result (stays_behind _ _ _)
