@@ -1,6 +1,6 @@
 -- Results of calls that place a block.
 use Rattle.std.proofs.Common.{ℕ, Result, Ok, Err}
-use Rattle.std.specs.Prelude.{OnOk, OnErr}
+use Rattle.std.specs.Prelude.{OnErr}
 use Rattle.arena_core.specs.Answers.{Answer, answer_of, OnCounted}
 use Rattle.arena_store.specs.declared.block.ArenaErr.{ArenaErr}
 use Rattle.arena_store.specs.declared.block.ArenaErr.TheVariants.{AllocErr, OutOfMemory}
@@ -14,13 +14,3 @@ uncounted_err P OutOfMemory holds = (0, holds)
 pub on_err : {X E P : Type 0} → (r : Result X E) → P → OnErr r P
 on_err (Ok x) holds = tt
 on_err (Err e) holds = holds
-
--- A fact on an error may be replaced by one that follows from it.
-pub on_err_less : {X E P Q : Type 0} → (r : Result X E) → (P → Q) → OnErr r P → OnErr r Q
-on_err_less (Ok x) less holds = tt
-on_err_less (Err e) less holds = less holds
-
--- A fact on success may be replaced by one that follows from it.
-pub on_ok_less : {X E P Q : Type 0} → (r : Result X E) → (P → Q) → OnOk r P → OnOk r Q
-on_ok_less (Ok x) less holds = less holds
-on_ok_less (Err e) less holds = tt
