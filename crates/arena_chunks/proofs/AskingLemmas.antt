@@ -1,5 +1,5 @@
 -- What a call on a block asks for, and why it is refused.
-use Rattle.std.proofs.Common.{◌≡◌, ℕ, ◌+◌, ◌-◌, ◌*◌, ◌%◌, ◌^◌, ◌<◌, ◌≤◌, ap, sym, refl, subst, arith, IsTrue, Some, None, Option, List, [], ◌∷◌, length, inl, inr, true, false}
+use Rattle.std.proofs.Common.{◌≡◌, ℕ, ◌+◌, ◌-◌, ◌*◌, ◌%◌, ◌^◌, ◌<◌, ◌≤◌, ap, sym, refl, subst, arith, IsTrue, Some, None, Option, length, inl, inr, true, false}
 use Rattle.std.specs.Prelude.{nat_le, nat_lt, ◌==◌, ◌&&◌, Bool, if◌then◌else◌}
 use Rattle.std.specs.List.{AllByRecursion}
 use Rattle.std.proofs.lemmas.Bool.{cases_Bool, cases_lt}
@@ -7,7 +7,7 @@ use Rattle.std.proofs.lemmas.Bool.Decides.{nat_tests}
 use Rattle.std.proofs.lemmas.Option.{cond_some}
 use Rattle.std.proofs.lemmas.List.{length-map, length-take}
 use Rattle.arena_rules.specs.Rounding.{up, is_layout, is_power}
-use Rattle.arena_rules.specs.State.{State, Chunk, AreChunks, IsValid, top_of, cursor_of, newest_size, used_bytes, allocated_bytes}
+use Rattle.arena_rules.specs.State.{State, IsValid, top_of, cursor_of, newest_size, used_bytes, allocated_bytes}
 use Rattle.arena_rules.specs.Search.{place, asked, requests, alloc_requests}
 use Rattle.arena_rules.specs.Moves.{Outcome, Resizing, alloc, dealloc, resize, growing, growth, down_to, shrinking, shrink_step, stays, placed, fails}
 use Rattle.arena_rules.specs.Moves.Resizing.{Stays, Moves, Anew, Refused as NotGrown}
@@ -204,11 +204,7 @@ grown_starved old new block size align k layout small power low_align bounded gr
 
 -- no chunk has as many bytes as a size that is refused at once
 chunk_below : (state : State) → IsValid state → newest_size state.chunks + 64 ≤ 2 ^ 63
-chunk_below state valid = go state.chunks valid.chunks
-  where
-    go : (chunks : List Chunk) → AreChunks state.min_align chunks → newest_size chunks + 64 ≤ 2 ^ 63
-    go [] fine = omega arith
-    go (newest ∷ older) fine = omega (arith, fine.0.size_fits)
+chunk_below state valid = grind (arith, valid.chunks)
 
 pub grown_full : (old new : View) (block : Block) (size align k : ℕ) → IsTrue (is_layout size align) → IsTrue (is_power block.align)
     → block.align ≤ 16 → old.memory.state.is_growing ≡ false → GrowsBlock old new block size align (Refused k)

@@ -1,8 +1,8 @@
 -- How many bytes the calls on blocks bring into use, and how chunks grow by them.
-use Rattle.std.proofs.Common.{◌≡◌, ℕ, ◌+◌, ◌-◌, ◌%◌, ◌≤◌, Bool, false, Option, Some, None, List, [], ◌∷◌, map, sum, ap, refl, sym, subst, ◌∙◌, arith, IsTrue}
+use Rattle.std.proofs.Common.{◌≡◌, ℕ, ◌+◌, ◌-◌, ◌%◌, ◌≤◌, false, Option, Some, None, ap, refl, sym, subst, ◌∙◌, arith, IsTrue}
 use Rattle.std.specs.Prelude.{◌≢◌}
 use Rattle.arena_rules.specs.Rounding.{is_layout}
-use Rattle.arena_rules.specs.State.{State, Chunk, IsValid, FitsKind, cursor_of, newest_size, used_bytes, allocated_bytes}
+use Rattle.arena_rules.specs.State.{State, IsValid, cursor_of, used_bytes, allocated_bytes}
 use Rattle.arena_rules.specs.Search.{place}
 use Rattle.arena_rules.specs.Moves.{Resizing, dealloc, grow, shrink, reset}
 use Rattle.arena_rules.specs.Moves.Resizing.{Moves, Anew, Stays}
@@ -14,6 +14,7 @@ use Rattle.arena_rules.proofs.UsedBytesLemmas.{alloc_least, alloc_most, alloc_ex
 use Rattle.arena_rules.proofs.UsedResizeLemmas.{grow_used, growth_least, growth_most, growth_exact, shrink_used, resize_stays, dealloc_used, dealloc_used_elsewhere, padded_exact}
 use Rattle.arena_rules.proofs.DoublingLemmas.{alloc_doubling, resize_doubling, dealloc_doubling}
 use Rattle.arena_rules.proofs.ResetLemmas.{reset_allocated, reset_used}
+use Rattle.arena_rules.proofs.AskedSizeLemmas.{one_chunk}
 use Rattle.arena_store.specs.Memory.{Memory, is_readable}
 use Rattle.arena_store.specs.Source.{View}
 use Rattle.arena_core.specs.Answers.Answer.{Placed}
@@ -173,16 +174,9 @@ returned_doubling z old new b gives double =
 
 -- ---- A reset
 
--- An arena that doesn't grow has one chunk.
-one_chunk : (chunks : List Chunk) → FitsKind false chunks → newest_size chunks ≡ sum (map (λ (c : Chunk). c.size) chunks)
-one_chunk [] fits = absurd fits
-one_chunk (newest ∷ []) fits = omega arith
-one_chunk (newest ∷ (next ∷ older)) fits = absurd fits
-
--- So a reset keeps all its bytes.
+-- An arena that doesn't grow has one chunk, so a reset keeps all its bytes.
 pub reset_keeps_bytes : (state : State) → IsValid state → state.is_growing ≡ false → allocated_bytes (reset state) ≡ allocated_bytes state
-reset_keeps_bytes state valid still = reset_allocated state
-    ∙ one_chunk state.chunks (subst (λ (b : Bool). FitsKind b state.chunks) still valid.kind)
+reset_keeps_bytes state valid still = reset_allocated state ∙ sym (one_chunk state valid still)
 
 -- for automatic proof
 pub ruleset given_back_laws = (returned_used, returned_size, returned_elsewhere, reset_used, reset_keeps_bytes)
