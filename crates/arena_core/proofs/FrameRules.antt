@@ -6,7 +6,7 @@ use Rattle.std.proofs.lemmas.Bool.{cases_lt, or_cases, or_left, or_right}
 use Rattle.std.proofs.lemmas.Bool.Decides.{nat_tests}
 use Rattle.std.proofs.lemmas.List.Folds.{list_any_at}
 use Rattle.std.proofs.lemmas.List.Elements.{Contains-append_right}
-use Rattle.arena_rules.specs.State.{State, Chunk, is_used, is_used_by, is_range_used}
+use Rattle.arena_rules.specs.State.{State, Chunk, is_used_by, is_range_used}
 use Rattle.arena_store.specs.Memory.{Memory, image, is_readable}
 use Rattle.arena_core.specs.Frame.{IsApart, AreAllApart, ArePairwiseApart, AreBlocksApart, Frame, Stays, IsInUse}
 use Rattle.arena_store.specs.declared.block.Block.{Block}
@@ -182,14 +182,12 @@ frame_keeps old new before after b frame readable apart = elim (cases_lt 0 b.siz
           used = frame.kept b.addr b.size some is.used apart;
         });
         bytes = bytes_same (image new) (image old) b.addr b.size
-            (λ i below. frame.bytes (b.addr + i) (used i below)
+            (λ i below. frame.bytes (b.addr + i)
+            (readable_part old.state b (b.addr + i) 1 readable (omega arith) (omega arith) (omega arith))
             (apart_within b.addr b.size (b.addr + i) 1 before (omega arith) (omega arith) apart));
         apart = frame.apart b.addr b.size some is.used apart;
       }
 ]
-  where
-    used : (i : ℕ) → i < b.size → IsTrue (is_used old.state (b.addr + i))
-    used i below = readable_part old.state b (b.addr + i) 1 readable (omega arith) (omega arith) (omega arith)
 
 -- so do all blocks of a list
 pub frame_keeps_all : (old new : Memory) (before after bs : List Block) → Frame old new before after

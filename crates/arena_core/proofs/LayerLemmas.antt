@@ -7,7 +7,7 @@ use Rattle.std.proofs.lemmas.Bool.Decides.{nat_tests}
 use Rattle.std.proofs.lemmas.Grind.{common_steps}
 use Rattle.std.proofs.lemmas.List.Sums.{sum_by-cons}
 use Rattle.std.proofs.lemmas.Option.{cond_some}
-use Rattle.arena_rules.specs.State.{State, Chunk, IsValid, AreApart, AreChunks, cursor_of, used_length, used_bytes, is_used_by, is_range_used}
+use Rattle.arena_rules.specs.State.{State, Chunk, IsValid, AreChunks, cursor_of, used_length, used_bytes, is_used_by, is_range_used}
 use Rattle.arena_rules.specs.Moves.{Outcome, Resizing, resize, shrink_step, placed, stays, fails}
 use Rattle.arena_rules.specs.Moves.Resizing.{Anew, Moves, Stays as StaysThere}
 use Rattle.arena_rules.specs.Lists.{splice}
@@ -87,12 +87,11 @@ frame_keeps_beside old new one after b frame readable apart = frame_keeps old ne
 pub placed_apart : (old new : View) (size align : ℕ) (b : Block) (bs : List Block) → PlacesBlock old new size align (Placed b)
     → AllByRecursion (λ (c : Block). IsTrue (is_readable old.memory.state c)) bs → IsApart b.addr b.size bs
 placed_apart old new size align b [] places readable = tt
-placed_apart old new size align b (c ∷ bs) places readable = (beside, placed_apart old new size align b bs places readable.1)
-  where
-    beside : AreApart b.addr b.size c.addr c.size
-    beside = λ some filled.
-        apart_turned c.addr c.size b.addr b.size
-        (places.1.outcome.frame.apart c.addr c.size filled (is_filled old.memory.state c filled readable.0).used tt).0 some filled
+placed_apart old new size align b (c ∷ bs) places readable = (
+  λ some filled. apart_turned c.addr c.size b.addr b.size
+      (places.1.outcome.frame.apart c.addr c.size filled (is_filled old.memory.state c filled readable.0).used tt).0 some filled,
+  placed_apart old new size align b bs places readable.1,
+)
 
 -- So it joins blocks that are pairwise apart.
 pub placed_pairwise : (old new : View) (size align : ℕ) (b : Block) (bs : List Block) → PlacesBlock old new size align (Placed b)
@@ -135,11 +134,10 @@ returned_bytes old new b addr gives = ap (λ (w : Memory). image w addr) gives.m
 -- With least alignment 1, only the use of the block's own bytes changes.
 pub returned_plain : (old new : Memory) (b : Block) → GivesBack old new b → old.state.min_align ≡ 1 → Frame old new (b ∷ []) []
 returned_plain old new b gives one =
+    let unpadded : padded_size old.state.min_align b.addr b.size ≡ b.size =
+    rw one (padded_exact 1 b.addr b.size (omega arith) (omega arith) (omega arith)) in
     frame_weaken old new (padded old.state.min_align b ∷ []) (b ∷ []) [] [] (λ addr n some apart. (rw unpadded apart.0, tt))
     (λ addr n some apart rest. tt) gives.frame
-  where
-    unpadded : padded_size old.state.min_align b.addr b.size ≡ b.size
-    unpadded = rw one (padded_exact 1 b.addr b.size (omega arith) (omega arith) (omega arith))
 
 -- ---- A block that is written
 
