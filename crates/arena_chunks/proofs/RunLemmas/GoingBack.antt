@@ -55,13 +55,10 @@ pub found_from : (name : ℕ) (marks : List Mark) (m : Mark) (older : List Mark)
 found_from name [] m older is = absurd (cc)
 found_from name (o ∷ rest) m older is = by (o.name == name) (λ same. found_from name rest m older same) is
   where
-    first : o ∷ rest ≡ m ∷ older → o ≡ m
-    first same = cc
-
     by : (b : Bool) → (marks_from name rest ≡ m ∷ older → mark_named (named rest) name ≡ Some (mark_at m.checkpoint))
         → (if b then o ∷ rest else marks_from name rest) ≡ m ∷ older
         → (if b then Some (mark_at o.checkpoint) else mark_named (named rest) name) ≡ Some (mark_at m.checkpoint)
-    by true later same = ap (λ (x : Mark). Some (mark_at x.checkpoint)) (first same)
+    by true later same = let first : o ≡ m = cc in ap (λ (x : Mark). Some (mark_at x.checkpoint)) first
     by false later same = later same
 
 module _ (state : State) (names : Held) (noted : Noted) (name : ℕ) (m : Mark) (older : List Mark) (tracks : Tracks state names noted)

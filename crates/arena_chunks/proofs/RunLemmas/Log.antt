@@ -82,16 +82,14 @@ pub inserted_at_cursor : (state : State) (names : Held) (name : ℕ) (b : Place)
 inserted_at_cursor state names name b holds at_cursor = record {
   own = λ p at some.
       let same : b ≡ p = same_Some b p (sym (get-inserted names name b) ∙ at) in
-      ap (λ (x : Place). x.addr) (sym same) ∙ at_cursor (chunk p.addr p.size (used_filled state p some (holds.each name p at).used));
+      ap (λ (x : Place). x.addr) (sym same)
+      ∙ at_cursor (chunk state.chunks p.addr p.size (used_filled state p some (holds.each name p at).used));
   rest = λ q other. get-insert_other names name q b other;
 }
   where
-    chunk : (addr n : ℕ) → IsTrue (is_range_used state.chunks addr n) → 0 < length state.chunks
-    chunk addr n = some state.chunks
-      where
-        some : (chunks : List Chunk) → IsTrue (is_range_used chunks addr n) → 0 < length chunks
-        some [] used = cc
-        some (newest ∷ older) used = omega arith
+    chunk : (chunks : List Chunk) (addr n : ℕ) → IsTrue (is_range_used chunks addr n) → 0 < length chunks
+    chunk [] addr n used = cc
+    chunk (newest ∷ older) addr n used = omega arith
 
 -- a name's block that stayed where it was has no more bytes
 pub inserted_within : (names : Held) (name : ℕ) (a b : Place) → finite.get names name ≡ Some a → a.addr ≡ b.addr → b.size ≤ a.size
@@ -166,8 +164,6 @@ letting_next state names held next from name log some read fallen stays goes let
       ];
     })
       where
-        left_by : (q : ℕ) → finite.get held q ≡ finite.get names q → is_left state held q ≡ is_left state names q
-        left_by q same = ap (λ (o : Option Place). option_map_or (is_place_used state) o false) same
-
         other : (q : ℕ) → IsTrue (is_left state names q) → q ≢ name
-        other q is same = not_both (is_left state held name) (ap (is_left state held) (sym same) ∙ left_by q (lets.left q is) ∙ is) gone
+        other q is same = not_both (is_left state held name) (ap (is_left state held) (sym same)
+            ∙ ap (λ (o : Option Place). option_map_or (is_place_used state) o false) (lets.left q is) ∙ is) gone
