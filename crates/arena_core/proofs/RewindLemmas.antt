@@ -13,7 +13,7 @@ use Rattle.arena_rules.proofs.UsedLemmas.{floor_least, used_under}
 use Rattle.arena_store.specs.Memory.{Memory, byte_in, image, bytes_from, is_readable}
 use Rattle.arena_core.specs.Checkpoints.{with_first, first_bytes, mark_at, is_accepted, sent_back, GoesBack}
 use Rattle.arena_core.specs.declared.rewind.Checkpoint.{Checkpoint}
-use Rattle.arena_store.specs.Stored.{stored_chunk, stored_bytes, all_chunks, oldest, IsOldest, IsReady, IsStored}
+use Rattle.arena_store.specs.Stored.{stored_chunk, stored_bytes, oldest, IsOldest, IsReady, IsStored}
 use Rattle.arena_store.specs.declared.chunk.StoredChunk.{StoredChunk}
 use Rattle.arena_core.specs.declared.arena.Arena.TheInside.{Inside}
 use Rattle.arena_store.specs.declared.block.Block.{Block}
@@ -101,24 +101,6 @@ module _ (m : ℕ) (a : Inside m) (memory : Memory) where
         start = ap (λ (w : Memory). start_of w.state.chunks) (sym first.view) ∙ rw test refl;
         top = ap (λ (w : Memory). top_of w.state.chunks) (sym first.view) ∙ rw test refl;
       }
-
-  -- the same if it is the newest
-  pub ends_newest : (n : ℕ) → Stands m a → view_of m a ≡ memory → 0 < n → length a.older.items < n → n ≤ length memory.state.chunks
-      → AreEnds n a.newest
-  ends_newest n stands view some far within =
-      let here = counted n stands view some within in
-      let all : length memory.state.chunks - n ≡ 0 = omega (arith, here.1, far) in
-      record {
-        start = ap (λ (k : ℕ). start_of (drop k memory.state.chunks)) all ∙ ap (λ (w : Memory). start_of w.state.chunks) (sym view)
-            ∙ rw here.0 refl;
-        top = ap (λ (k : ℕ). top_of (drop k memory.state.chunks)) all ∙ ap (λ (w : Memory). top_of w.state.chunks) (sym view)
-            ∙ rw here.0 refl;
-      }
-
-  -- there is a list of bytes for each chunk
-  pub lists_paired : view_of m a ≡ memory → length memory.bytes ≡ length memory.state.chunks
-  lists_paired view = subst (λ (w : Memory). length w.bytes ≡ length w.state.chunks) view
-      (length-map (all_chunks a.newest a.older.items) stored_bytes ∙ sym (length-map (all_chunks a.newest a.older.items) stored_chunk))
 
 -- ---- What stays as it was
 
