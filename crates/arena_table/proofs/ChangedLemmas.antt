@@ -6,7 +6,7 @@ use Rattle.arena_chunks.specs.BlockCalls.{EditsBlock}
 use Rattle.arena_items.specs.Values.{bytes_of}
 use Rattle.hash_ring.specs.Slots.{Has}
 use Rattle.hash_ring.specs.Marks.{home_of}
-use Rattle.hash_ring.proofs.Homes.{home-less}
+use Rattle.std.proofs.Math.Nat.{mod-lt}
 use Rattle.hash_ring.proofs.Order.{away-of, ordered-swap}
 use Rattle.hash_ring.proofs.Places.{put-cases}
 use Rattle.arena_table.specs.Contents.{Kind}
@@ -25,7 +25,7 @@ module _ {K V S : Type 0} (k : Kind K V S) (old new : Memory) (hasher : S) (t : 
   hash p = pair_hash k old hasher p
 
   homes : (p : K × V) → home_of t.slots (hash p) < t.slots
-  homes p = home-less t.slots (hash p) some
+  homes p = mod-lt (hash p) some
 
   shape : IsShape k.keys k.values t.slots (bytes_of old t.block)
   shape = handle-shape k.keys k.values old t keys_small values_small held.handle some

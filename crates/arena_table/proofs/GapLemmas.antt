@@ -8,7 +8,7 @@ use Rattle.hash_ring.specs.Slots.{spot, items, IsAway, Closed}
 use Rattle.hash_ring.specs.Marks.{home_of, mark_of}
 use Rattle.std.proofs.Math.Nat.{mod-lt}
 use Rattle.hash_ring.proofs.Close.{Closing, closing-start, closing-less, closing-pull, closing-free}
-use Rattle.hash_ring.proofs.Homes.{home-less, step-place}
+use Rattle.hash_ring.proofs.Homes.{step-place}
 use Rattle.hash_ring.proofs.Order.{away-of}
 use Rattle.hash_ring.proofs.RingLemmas.{below-next, spot-less, spot-zero, spot-same, spot-before, next-spot}
 use Rattle.arena_table.specs.Edits.{SetsSlot, CopiesSlot, ClosesGap, IsNear}
@@ -74,7 +74,7 @@ module _ {K V : Type 0} (keys : Ghosts K) (values : Ghosts V) (n start : ℕ) (f
 
   module _ (begun : start < n) where
     homes : (hash : K × V → ℕ) (p : K × V) → home_of n (hash p) < n
-    homes hash p = home-less n (hash p) (omega arith)
+    homes hash p = mod-lt (hash p) (omega arith)
 
     pub gap-start : IsShape keys values n from → Gap 0 from start
     gap-start shape = record {

@@ -4,7 +4,7 @@ use Rattle.std.specs.Prelude.{slice_get}
 use Rattle.arena_items.specs.declared.item.Item.{Ghosts}
 use Rattle.hash_ring.specs.Slots.{spot, items, IsPlaceFor, Settled}
 use Rattle.hash_ring.specs.Marks.{home_of, mark_of}
-use Rattle.hash_ring.proofs.Homes.{home-less}
+use Rattle.std.proofs.Math.Nat.{mod-lt}
 use Rattle.hash_ring.proofs.Order.{away-of}
 use Rattle.hash_ring.proofs.RingLemmas.{next-spot}
 use Rattle.hash_ring.proofs.Settle.{Settling, settling-start, settling-less, settling-swap, settling-done}
@@ -24,7 +24,7 @@ module _ {K V : Type 0} (keys : Ghosts K) (values : Ghosts V) (hash : K × V →
 
   module _ (some : 0 < n) where
     homes : (p : K × V) → home_of n (hash p) < n
-    homes p = home-less n (hash p) some
+    homes p = mod-lt (hash p) some
 
     pub putting-start : (from : List ℕ) (x : K × V) (at d mark : ℕ) → IsTable keys values hash n from
         → IsPlaceFor (λ p. home_of n (hash p)) n (slots_of keys values n from) (home_of n (hash x)) at d → mark ≡ mark_of (hash x) d

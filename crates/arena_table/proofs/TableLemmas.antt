@@ -6,7 +6,7 @@ use Rattle.std.proofs.lemmas.Option.{slice_get-get_or, slice_get_within}
 use Rattle.arena_items.specs.declared.item.Item.{Ghosts}
 use Rattle.hash_ring.specs.Slots.{spot, IsAway, IsOrdered}
 use Rattle.hash_ring.specs.Marks.{home_of, mark_of}
-use Rattle.hash_ring.proofs.Homes.{home-less}
+use Rattle.std.proofs.Math.Nat.{mod-lt}
 use Rattle.hash_ring.proofs.Order.{away-put, away-free}
 use Rattle.hash_ring.proofs.Passing.{AreMarked}
 use Rattle.hash_ring.proofs.Places.{not_free}
@@ -17,7 +17,7 @@ use Rattle.arena_table.proofs.SlotLemmas.{slots-long, slot-taken, slot-within-lo
 module _ {K V : Type 0} (keys : Ghosts K) (values : Ghosts V) (hash : K × V → ℕ) (n : ℕ) (some : 0 < n) (old new : List ℕ)
     (shape : IsShape keys values n old) (table : IsTable keys values hash n old) where
   homes : (p : K × V) → home_of n (hash p) < n
-  homes p = home-less n (hash p) some
+  homes p = mod-lt (hash p) some
 
   -- each slot holds a pair, or is free
   was : (i : ℕ) → i < n → slice_get (slots_of keys values n old) i ≡ Some (get_or (slots_of keys values n old) i None)

@@ -1,4 +1,4 @@
-use Rattle.std.proofs.Common.{◌≡◌, ◌+◌, ◌-◌, ◌*◌, ◌/◌, ◌<◌, ◌≤◌, ℕ, suc, zero, List, take, drop, length, refl, sym, ap, ◌∙◌, arith}
+use Rattle.std.proofs.Common.{◌≡◌, ◌+◌, ◌-◌, ◌*◌, ◌/◌, ◌<◌, ℕ, suc, List, take, drop, length, refl, sym, ap, ◌∙◌, arith}
 use Rattle.std.proofs.lemmas.List.{drop-drop, take_rest}
 use Rattle.hash_ring.specs.Fx.{spread, joined, folded}
 use Rattle.hash_ring.proofs.hasher.long_of.Goals as goal
@@ -19,11 +19,6 @@ last-word bytes long =
     let eight : 8 ≡ length bytes - (length bytes - 8) = omega arith in
     ap (λ n. take n (drop (length bytes - 8) bytes)) eight ∙ take_rest bytes (length bytes - 8)
 
--- no word is left
-folded-none : (hash words i : ℕ) (bytes : List ℕ) → words ≤ i → hash ≡ folded hash (words - i) bytes
-unfolding folded
-folded-none hash words i bytes past = let none : words - i ≡ zero = omega arith in rw none refl
-
 pub loop-i-init : goal.loop-i-init
 loop-i-init c =
     let words : ℕ = (length c.args.content.now - 1) / 8 in
@@ -38,8 +33,9 @@ loop-i-preserved c =
     folded-step c.loop-i.hash _ c.loop-i.i _ c.args.content.now c.loop-i-test.true c.joined-hash-in-loop-i.ensures ∙ c.loop-i.invariant
 
 pub returns : goal.returns
+unfolding folded
 returns c =
     let bytes : List ℕ = c.args.content.now in
+    let none : (length bytes - 1) / 8 - c.loop-i.i ≡ 0 = omega (arith, c.loop-i-test.false) in
     c.joined.ensures ∙ ap (joined c.loop-i.hash) (last-word bytes c.requires)
-    ∙ ap (λ h. joined h (drop (length bytes - 8) bytes))
-    (folded-none c.loop-i.hash _ c.loop-i.i (drop (8 * c.loop-i.i) bytes) c.loop-i-test.false ∙ c.loop-i.invariant)
+    ∙ ap (λ h. joined h (drop (length bytes - 8) bytes)) (rw none at c.loop-i.invariant)
