@@ -11,7 +11,7 @@ use Rattle.arena_items.specs.Values.{bytes_of}
 use Rattle.arena_items.specs.declared.room.AllocError.{AllocError}
 use Rattle.arena_items.specs.declared.room.AllocError.TheVariants.{CapacityOverflow}
 use Rattle.hash_ring.specs.Policy.{slot_size, table_align, IsSlotsFor}
-use Rattle.hash_ring.proofs.PolicyLemmas.{slots-room, credit-none}
+use Rattle.hash_ring.proofs.PolicyLemmas.{credit-none}
 use Rattle.arena_table.specs.Contents.{Kind}
 use Rattle.arena_table.specs.Tables.{slots_in, IsTableHandle}
 use Rattle.arena_table.specs.declared.table.Table.{Table}
@@ -83,7 +83,7 @@ module _ {K V S : Type 0} (k : Kind K V S) (keys : IsItemLayout k.keys.SIZE k.ke
           map_is = free-is k new.memory m free_all;
           len = len;
           slots = λ h. rw same is;
-          spare = rw (same, len) (omega (arith, slots-room pairs slots few is));
+          spare = rw (same, len) (omega (arith, is.1));
           credit = rw len (credit-none (unit_of k) m.table.slots);
           bytes = costs.1;
           err = tt;

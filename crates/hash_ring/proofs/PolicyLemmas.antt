@@ -32,10 +32,6 @@ power-eights n is least = elim (cases_lt is.0 3) [
 pub slots-ring : (pairs slots : ℕ) → pairs < 2 ^ 32 → IsSlotsFor pairs slots → IsRing slots
 slots-ring pairs slots few is = (is.0, omega (arith, is.1), power-below slots 33 is.0 (omega (arith, is.1, is.2)))
 
--- and has room for them;
-pub slots-room : (pairs slots : ℕ) → pairs < 2 ^ 32 → IsSlotsFor pairs slots → pairs ≤ limit slots
-slots-room pairs slots few is = omega (arith, is.1)
-
 -- so is the next table.
 next-zero : (slots : ℕ) → slots ≡ 0 → next_slots slots ≡ 16
 next-zero slots h = rw h refl
