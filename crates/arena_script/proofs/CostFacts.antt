@@ -2,8 +2,7 @@
 use Rattle.std.proofs.Common.{◌≡◌, ◌≢◌, ℕ, ◌+◌, ◌-◌, ◌*◌, ◌^◌, ◌≤◌, refl, ap, ◌∙◌, sym, subst, arith, IsTrue, Result, Ok, Err, inl}
 use Rattle.std.specs.Prelude.{IsErrAnd}
 use Rattle.arena_rules.specs.Rounding.{is_layout}
-use Rattle.arena_rules.specs.State.{State, used_bytes, allocated_bytes}
-use Rattle.arena_rules.specs.Asking.{IsStarved as IsStateStarved}
+use Rattle.arena_rules.specs.State.{State, used_bytes}
 use Rattle.arena_rules.proofs.AskingLemmas.{asks_more, asks_then}
 use Rattle.arena_rules.proofs.GrownLemmas.{alloc_failed}
 use Rattle.arena_rules.proofs.RoundingLemmas.{layout_power}
@@ -51,19 +50,10 @@ pub costs_from : {X : Type 0} (near cost before after : ℕ) (old start new : Vi
     → Costs near cost before after start new result → Costs near cost before after old new result
 costs_from near cost before after old start new result written costs =
     let equal = same_used old start written in
-    let grows : start.memory.state.is_growing ≡ old.memory.state.is_growing = ap (λ (s : State). s.is_growing) written.state in record {
-      takes = omega (arith, equal, costs.takes);
-      asks = asks_then _ old.memory.state start.memory.state new.memory.state old.source start.source new.source
-          (asks_same _ old start written.state written.source)
-          (asks_more _ _ start.memory.state new.memory.state start.source new.source (omega (arith, equal)) costs.asks);
-      starved = λ growing k is. subst (λ s. IsStateStarved near s new.memory.state old.source new.source) written.state
-          (subst (λ s. IsStateStarved near start.memory.state new.memory.state s new.source) written.source
-          (costs.starved (grows ∙ growing) k is));
-      full = λ stays k is. let short = costs.full (grows ∙ stays) k is in record {
-        still = stays;
-        short = omega (arith, short.short, equal, ap (λ (s : State). allocated_bytes s) written.state);
-      };
-    }
+    let asks = asks_then (used old + (cost + before)) old.memory.state start.memory.state new.memory.state old.source start.source new.source
+    (asks_same _ old start written.state written.source)
+    (asks_more _ _ start.memory.state new.memory.state start.source new.source (omega (arith, equal)) costs.asks) in
+    grind (arith, equal, asks, written, costs)
 
 -- ---- A call that is refused
 

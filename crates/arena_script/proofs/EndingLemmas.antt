@@ -1,5 +1,5 @@
 -- How a run ends.
-use Rattle.std.proofs.Common.{◌≡◌, ℕ, ◌+◌, ◌*◌, ◌≤◌, ◌<◌, refl, sym, ap, ◌∙◌, subst, arith, inl, inr, Bool, true, false, Some, Err, get_or, add-one, List, [], ◌∷◌, ◌++◌, length, take, length-take, slice_get, IsTrue}
+use Rattle.std.proofs.Common.{◌≡◌, ℕ, ◌+◌, ◌*◌, ◌≤◌, ◌<◌, refl, sym, ap, ◌∙◌, subst, arith, Bool, true, false, Some, Err, get_or, add-one, List, [], ◌∷◌, ◌++◌, length, take, length-take, slice_get, IsTrue}
 use Rattle.std.specs.Prelude.{if◌then◌else◌, IsSomeAnd, ◌≢◌}
 use Rattle.std.proofs.Math.Seq.{take-length, take-suc}
 use Rattle.std.proofs.lemmas.Option.{slice_get-get_or}
@@ -132,21 +132,26 @@ module _ (script : List Command) (start : View) {replies : List ScriptReply} {i 
         → (ended ≢ OutOfMemory → IsDenied script (came replies ended bytes) start next)
         → (ended ≢ OutOfMemory → HasNoPlace (cost_with_next script (came replies ended bytes)) next)
         → IsRun script start next (came replies ended bytes)
-    run_stopped ended other full refused asked denied = record {
-      replies = record { first = first; all = λ e. absurd (other e) };
-      holds = λ e. absurd (other e);
-      asks = asks_for ended;
-      used = is;
-      most = omega (arith, next_cost ended bytes, is, unused, (stopped_costs c at.more after stops).takes);
-      least = λ e. absurd (other e);
-      so_far = omega (arith, needs maps after, stops.least, is);
-      full = full;
-      refused = refused;
-      asked = λ _. asked;
-      denied = λ _. denied;
-      stopped = λ _. inr (stopped_at ended);
-      kind = stopped_kind c at.more after stops;
-    }
+    run_stopped ended other full refused asked denied =
+        let costs = stopped_costs c at.more after stops in
+        grind (
+          arith,
+          other,
+          full,
+          refused,
+          asked,
+          denied,
+          first,
+          asks_for ended,
+          is,
+          next_cost ended bytes,
+          unused,
+          costs.takes,
+          needs maps after,
+          stops.least,
+          stopped_at ended,
+          stopped_kind c at.more after stops,
+        )
 
     -- Memory ran out.
     pub run_exhausted : IsRun script start next (came replies OutOfMemory bytes)

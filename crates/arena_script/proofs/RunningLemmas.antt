@@ -52,20 +52,11 @@ none_replied = refl
 -- Before the first command there are no things.
 pub after_none : (script : List Command) (start : View) → used start ≡ 0 → IsAfter script start start [] 0
 unfolding run_from rooms_from
-after_none script start unused = record {
-  are = record { rising = refl; held = λ n. tt; apart = λ n k other. tt; objects = no_objects };
-  objects = refl;
-  rooms = λ name. tt;
-  least = omega arith;
-  costs = nothing_given _ 0 0 start start (still start) (omega arith);
-  kind = record { is_growing = refl; allocated = λ stays. refl };
-}
+after_none script start unused =
+    let costs = nothing_given 0 0 0 start start (still start) (omega arith) in grind (arith, costs, no_objects)
 
 kind_then : (old mid new : View) → KeepsKind old.memory mid.memory → KeepsKind mid.memory new.memory → KeepsKind old.memory new.memory
-kind_then old mid new one two = record {
-  is_growing = two.is_growing ∙ one.is_growing;
-  allocated = λ stays. two.allocated (one.is_growing ∙ stays) ∙ one.allocated stays;
-}
+kind_then old mid new one two = grind (arith, one, two)
 
 -- how far up the newest data end may be for a run not to be starved by itself
 abbrev pub run_far : ℕ

@@ -197,16 +197,10 @@ module _ {command : Command} {things : Things} {old new : View} {name : ℕ} {t 
   -- If memory runs out for the name, it is a new one.
   pub given_stops : get things name ≡ None → Stops command old new things OutOfMemory
   given_stops none =
-      let costs = costs_all 0 (omega arith) in record {
-        fits = λ no. cc;
-        taken = or_right (tells_much command) (takes_room command) (gives.taken none);
-        least = let empty : size_held (get things name) ≡ 0 = ap size_held none in omega (arith, gives.least, empty);
-        costs = subst (λ n. CostsRefused n (credits_of things) 0 old new OutOfMemory) (sym (ap (λ (a : Answer). a.cost) answer_is))
-            (costs_exhausted costs);
-        asked = λ k no. absurd (cc);
-        denied = λ k no. absurd (cc);
-        kind = kind_stays;
-      }
+      let taken = or_right (tells_much command) (takes_room command) (gives.taken none) in
+      let empty : size_held (get things name) ≡ 0 = ap size_held none in
+      let costs = costs_exhausted (costs_all 0 (omega arith)) in
+      grind (arith, taken, empty, gives.least, costs, answer_is, kind_stays)
 
 -- ---- Nothing changes, or a name is removed
 
