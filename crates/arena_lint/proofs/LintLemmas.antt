@@ -124,15 +124,10 @@ nothing_spends {old} {k = k} trees is none means takes =
 -- A text's tree was not refused.
 pub parse_spends : {layouts : Layouts} {few all : ℕ} {old new : View} → few ≤ all → TakesAtMost few old new
     → Spends layouts all 0 0 old new None
-parse_spends {old = old} {new = new} less takes = record {
-  takes = omega (arith, takes.takes, less);
-  asks = asks_more _ _ old.memory.state new.memory.state old.source new.source (omega (arith, less)) takes.asks;
-  kind = takes.kind;
-  fits = λ no. cc;
-  denied = λ k no. absurd (cc);
-  starved = λ growing k no. absurd (cc);
-  full = λ still k no. absurd (cc);
-}
+parse_spends {few = few} {all = all} {old = old} {new = new} less takes =
+    let asks = asks_more (used old + few) (used old + (all + 0)) old.memory.state new.memory.state old.source new.source
+    (omega (arith, less)) takes.asks in
+    grind (arith, takes, less, asks)
 
 starved : (old new : View) → old.memory.state.is_growing ≡ true → IsStarvedBehind old new → IsStarved (2 ^ 62) old new
 starved old new growing since = record { growing = growing; cause = grind arith }
@@ -152,16 +147,8 @@ module _ {bytes : List ℕ} {old new : View} {error : Option AllocError} (unused
       → Lints bytes old new report
   lints report reports stopped denied full refused =
       let asks : AsksWithin (used old + lint_bytes (length bytes)) old new
-      = asks_more _ _ old.memory.state new.memory.state old.source new.source (omega arith) spends.asks in record {
-        reports = reports;
-        stopped = stopped;
-        most = omega (arith, spends.takes, unused);
-        asks = asks;
-        denied = denied;
-        full = full;
-        refused = λ is. record { asks = asks; starved = refused is };
-        kind = spends.kind;
-      }
+      = asks_more _ _ old.memory.state new.memory.state old.source new.source (omega arith) spends.asks in
+      grind (arith, reports, stopped, denied, full, refused, asks, spends, unused)
 
   -- no place for a block
   lints_unplaced : (growing : Bool) → new.memory.state.is_growing ≡ growing → IsProgramText bytes

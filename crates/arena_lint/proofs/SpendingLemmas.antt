@@ -1,5 +1,5 @@
 -- What calls spend one after another.
-use Rattle.std.proofs.Common.{◌≡◌, ℕ, ◌+◌, ◌≤◌, refl, ap, ◌∙◌, arith, Ok, Err, Some, None, List}
+use Rattle.std.proofs.Common.{◌≡◌, ℕ, ◌+◌, ◌≤◌, refl, ap, arith, Ok, Err, Some, None, List}
 use Rattle.std.specs.Prelude.{Result, Option, IsErr, IsErrAnd}
 use Rattle.std.proofs.lemmas.Option.{none-some, same_Some}
 use Rattle.arena_rules.proofs.AskingLemmas.{asks_more, asks_then, refused_after}
@@ -11,7 +11,7 @@ use Rattle.arena_chunks.proofs.Layers.{asks_same}
 use Rattle.arena_items.specs.Costs.{Costs, used}
 use Rattle.arena_items.specs.Denied.{Layouts, Only, IsDenied}
 use Rattle.arena_items.specs.declared.room.AllocError.{AllocError}
-use Rattle.arena_items.specs.declared.room.AllocError.TheVariants.{AllocErr, CapacityOverflow}
+use Rattle.arena_items.specs.declared.room.AllocError.TheVariants.{AllocErr, CapacityOverflow, OutOfMemory}
 use Rattle.arena_symbols.specs.Paying.{far_up}
 use Rattle.arena_symbols.specs.declared.names.Names.{Names as Known}
 use Rattle.arena_symbols.proofs.Layers.{denied_more, more_asked}
@@ -32,57 +32,34 @@ pub spends_costs : {X : Type 0} {layouts : Layouts} {few many before after all l
     → Costs far_up few before after old new result → KeepsKind old.memory new.memory → (result ≡ Err CapacityOverflow → ⊥)
     → ((k : ℕ) → result ≡ Err (AllocErr k) → IsDenied layouts new) → few + before ≤ many + all
     → few + before + left ≤ many + all + after → Spends layouts many all left old new (error_of result)
-spends_costs {X} {layouts} {few} {many} {before} {after} {all} {left} {old} {new} {result} costs kind fits denied less paid = record {
-  takes = omega (arith, costs.takes, paid);
-  asks = asks_more _ _ old.memory.state new.memory.state old.source new.source (omega (arith, less)) costs.asks;
-  kind = kind;
-  fits = λ is. fits (err_is result CapacityOverflow is);
-  denied = λ k is. denied k (err_is result (AllocErr k) is);
-  starved = λ growing k is.
-      grind (arith, (costs.starved growing k (err_is result (AllocErr k) is)).cause, costs.asks.chunks.allocated);
-  full = λ still k is.
-      let full = costs.full still k (err_is result (AllocErr k) is) in
-      record { still = full.still; short = omega (arith, full.short, less) };
-}
+spends_costs {few = few} {many = many} {before = before} {all = all} {old = old} {new = new} {result = result} costs kind fits denied less paid =
+    let asks = asks_more (used old + (few + before)) (used old + (many + all)) old.memory.state new.memory.state old.source new.source
+    (omega (arith, less)) costs.asks in
+    let is = err_is result in
+    grind (arith, costs, kind, fits, denied, less, paid, asks, is)
 
 -- Calls, and then others.
 pub spends_then : {asked asked_now layouts : Layouts} {one two all total before between after left : ℕ} {old mid new : View} {error : Option AllocError}
     → ((size align : ℕ) → asked_now size align → layouts size align) → Spends asked one before between old mid None
     → Spends asked_now two between after mid new error → one + two + before ≤ all + total
     → one + two + before + left ≤ all + total + after → Spends layouts all total left old new error
-spends_then {one = one} {two = two} {all = all} {total = total} {before = before} {between = between} {after = after} {left = left} {old = old}
-    {mid = mid} {new = new} more first second less paid =
-    let within : used mid + (two + between) ≤ used old + (all + total) = omega (arith, first.takes, less) in record {
-      takes = omega (arith, first.takes, second.takes, paid);
-      asks = asks_then _ old.memory.state mid.memory.state new.memory.state old.source mid.source new.source
-          (asks_more _ _ old.memory.state mid.memory.state old.source mid.source (omega (arith, less)) first.asks)
-          (asks_more _ _ mid.memory.state new.memory.state mid.source new.source within second.asks);
-      kind = record {
-        is_growing = second.kind.is_growing ∙ first.kind.is_growing;
-        allocated = λ still. second.kind.allocated (first.kind.is_growing ∙ still) ∙ first.kind.allocated still;
-      };
-      fits = second.fits;
-      denied = λ k is. denied_more more (second.denied k is);
-      starved = λ growing k is.
-          let after = refused_after _ old.memory.state mid.memory.state old.source mid.source new.source first.asks in
-          grind (arith, second.starved (first.kind.is_growing ∙ growing) k is, first.asks.chunks.top, after);
-      full = λ still k is.
-          let full = second.full (first.kind.is_growing ∙ still) k is in
-          record { still = still; short = omega (arith, full.short, first.kind.allocated still, within) };
-    }
+spends_then {layouts = layouts} {one = one} {two = two} {all = all} {total = total} {before = before} {between = between} {after = after} {left = left} {old = old}
+    {mid = mid} {new = new} {error = error} more first second less paid =
+    let within : used mid + (two + between) ≤ used old + (all + total) = omega (arith, first.takes, less) in
+    let asks = asks_then (used old + (all + total)) old.memory.state mid.memory.state new.memory.state old.source mid.source new.source
+    (asks_more _ _ old.memory.state mid.memory.state old.source mid.source (omega (arith, less)) first.asks)
+    (asks_more _ _ mid.memory.state new.memory.state mid.source new.source within second.asks) in
+    let denied : (k : ℕ) → error ≡ Some (AllocErr k) → IsDenied layouts new = λ k is. denied_more more (second.denied k is) in
+    let after = refused_after _ old.memory.state mid.memory.state old.source mid.source new.source first.asks in
+    grind (arith, first, second, paid, within, asks, denied, after)
 
 -- Nothing is done, and memory may run out.
 pub spends_nothing : {layouts : Layouts} {bytes saved : ℕ} {a : View} {error : Option AllocError} → IsExhausted error
     → Spends layouts bytes saved saved a a error
-spends_nothing {bytes = bytes} {saved = saved} {a = a} exhausted = record {
-  takes = omega arith;
-  asks = asks_same _ a a refl refl;
-  kind = record { is_growing = refl; allocated = λ still. refl };
-  fits = λ is. let no = rw is at exhausted in cc;
-  denied = λ k is. let no = rw is at exhausted in absurd (cc);
-  starved = λ growing k is. let no = rw is at exhausted in absurd (cc);
-  full = λ still k is. let no = rw is at exhausted in absurd (cc);
-}
+spends_nothing {bytes = bytes} {saved = saved} {a = a} {error = error} exhausted =
+    let asks = asks_same (used a + (bytes + saved)) a a refl refl in
+    let only : (e : AllocError) → error ≡ Some e → e ≡ OutOfMemory = λ e is. rw is at exhausted in
+    grind (arith, asks, only)
 
 -- ---- Statements
 
