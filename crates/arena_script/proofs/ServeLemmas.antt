@@ -183,16 +183,10 @@ module _ {command : Command} {things : Things} {old new : View} {name : ℕ} {t 
       (omega (arith, less, within, total_bind credit_of things name t are.rising)) gives.costs
 
   pub given_serves : Serves command old new things later reply
-  given_serves = record {
-    reply_is = sym (ap (λ (a : Answer). a.reply) answer_is);
-    objects = objects_then;
-    are = changed_things changed (subst AreObjects (sym objects_then) (step_keeps command before are.objects));
-    rooms = rooms_given;
-    least = omega (arith, gives.least, total_bind size_of things name t are.rising);
-    costs = subst (λ n. CostsGiven n (credits_of things) (credits_of later) old new) (sym (ap (λ (a : Answer). a.cost) answer_is))
-        (costs_all (credits_of later) (omega arith));
-    kind = kind_stays;
-  }
+  given_serves =
+      let all = changed_things changed (subst AreObjects (sym objects_then) (step_keeps command before are.objects)) in
+      let costs = costs_all (credits_of later) (omega arith) in
+      grind (arith, answer_is, objects_then, all, rooms_given, gives.least, total_bind size_of things name t are.rising, costs, kind_stays)
 
   -- If memory runs out for the name, it is a new one.
   pub given_stops : get things name ≡ None → Stops command old new things OutOfMemory
@@ -212,16 +206,10 @@ module _ (command : Command) (a : View) {things : Things} (are : AreThings a.mem
       → Serves command a a things things reply
   told_serves {reply} is =
       let answer : step command here ≡ record { reply = reply; cost = 0; objects = here } =
-      ap (settle here) (effect_seen command a.memory things ∙ is) in record {
-        reply_is = sym (ap (λ (x : Answer). x.reply) answer);
-        objects = sym (ap (λ (x : Answer). x.objects) answer);
-        are = are;
-        rooms = λ rooms have q. subst (λ e. IfSome (get things q) (λ u. room_in u ≡ rooms_then e here rooms q))
-            (sym (effect_seen command a.memory things ∙ is)) (have q);
-        least = omega arith;
-        costs = nothing_given _ _ _ a a (still a) (omega arith);
-        kind = same_kind a;
-      }
+      ap (settle here) (effect_seen command a.memory things ∙ is) in
+      let same = effect_seen command a.memory things ∙ is in
+      let costs = nothing_given 0 (credits_of things) (credits_of things) a a (still a) (omega arith) in
+      grind (arith, answer, same, are, costs, same_kind a)
 
   module _ {name : ℕ} (is : effect command (seen a.memory things) ≡ effects.LetsGo name) where
     gone : step command here ≡ record { reply = Done; cost = 0; objects = unbind here name }
@@ -254,15 +242,11 @@ module _ (command : Command) (a : View) {things : Things} (are : AreThings a.mem
         ]))
 
     pub let_go_serves : Serves command a a things (unbind things name) Done
-    let_go_serves = record {
-      reply_is = sym (ap (λ (x : Answer). x.reply) gone);
-      objects = objects_left;
-      are = changed_things left (subst AreObjects (sym objects_left) (step_keeps command here are.objects));
-      rooms = rooms_left;
-      least = omega (arith, total_unbind size_of things name);
-      costs = nothing_given _ _ _ a a (still a) (omega (arith, total_unbind credit_of things name));
-      kind = same_kind a;
-    }
+    let_go_serves =
+        let less = total_unbind credit_of things name in
+        let costs = nothing_given 0 (credits_of things) (credits_of (unbind things name)) a a (still a) (omega (arith, less)) in
+        let all = changed_things left (subst AreObjects (sym objects_left) (step_keeps command here are.objects)) in
+        grind (arith, gone, objects_left, all, rooms_left, total_unbind size_of things name, costs, same_kind a)
 
 -- ---- Nothing is given
 
