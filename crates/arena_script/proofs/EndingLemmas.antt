@@ -29,7 +29,7 @@ use Rattle.arena_script.specs.Asks.{asks}
 use Rattle.arena_script.specs.Acts.{used, HasNoPlace}
 use Rattle.arena_script.specs.Serves.{IsAfter, Stops}
 use Rattle.arena_script.specs.Wants.{takes_memory}
-use Rattle.arena_script.specs.Running.{IsRun, IsDenied, IsStoppedAt, cost_with_next}
+use Rattle.arena_script.specs.Running.{HoldsObjects, IsRun, IsDenied, IsStoppedAt, cost_with_next}
 use Rattle.arena_script.proofs.RunningLemmas.{cost_more, stopped_costs, stopped_kind}
 use Rattle.arena_script.proofs.ServeLemmas.{no_place_within}
 use Rattle.arena_script.proofs.NeedLemmas.{needed}
@@ -88,29 +88,21 @@ module _ (script : List Command) (start : View) {replies : List ScriptReply} {i 
     rises = omega (arith, cost_rises i (i + 1) script (omega arith), first_cost i script, first_cost (i + 1) script)
 
     pub run_done : IsRun script start now (came replies Done bytes)
-    run_done = record {
-      replies = record { first = first; all = λ e. are ∙ ap (λ s. (run s).replies) whole };
-      holds = λ e. record { things = things; are = after.are; mean = after.objects ∙ ap (λ s. (run s).objects) whole };
-      asks = asks_more _ _ start.memory.state now.memory.state start.source now.source
-          (omega (arith, next_cost Done bytes, rises)) after.costs.asks;
-      used = is;
-      most = omega (arith, next_cost Done bytes, after.costs.takes, unused, is, rises);
-      least = λ e. omega (
-        arith,
-        ap (λ s. need (run s).objects) whole,
-        ap need after.objects,
-        needed maps now.memory things after.are,
-        after.least,
-        is,
-      );
-      so_far = omega (arith, needs maps after, is);
-      full = λ e. absurd (cc);
-      refused = λ e. absurd (cc);
-      asked = λ other _. absurd (other refl);
-      denied = λ other _. absurd (other refl);
-      stopped = λ other. absurd (other refl);
-      kind = after.kind;
-    }
+    run_done =
+        let told = are ∙ ap (λ s. (run s).replies) whole in
+        let holds : HoldsObjects now.memory (run script).objects =
+        record { things = things; are = after.are; mean = after.objects ∙ ap (λ s. (run s).objects) whole } in
+        let asks = asks_more _ (used start + cost_with_next script (came replies Done bytes)) start.memory.state now.memory.state start.source
+        now.source (omega (arith, next_cost Done bytes, rises)) after.costs.asks in
+        let need_all : need (run script).objects ≤ bytes = omega (
+          arith,
+          ap (λ s. need (run s).objects) whole,
+          ap need after.objects,
+          needed maps now.memory things after.are,
+          after.least,
+          is,
+        ) in
+        grind (arith, told, first, holds, asks, is, next_cost Done bytes, after.costs.takes, unused, rises, need_all, needs maps after, after.kind)
 
   -- ---- A command wasn't served.
 

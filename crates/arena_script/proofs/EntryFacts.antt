@@ -1,5 +1,5 @@
 -- Entries of functions.
-use Rattle.std.proofs.Common.{◌≡◌, ℕ, zero, suc, ◌+◌, ◌<◌, ◌≤◌, refl, sym, ap, ◌∙◌, arith, Bool, true, false, cond, ◌&&◌, Option, Some, None, IsTrue, nat_cmp, is_lt, inl, inr}
+use Rattle.std.proofs.Common.{◌≡◌, ◌≢◌, ℕ, zero, suc, ◌+◌, ◌<◌, ◌≤◌, refl, sym, ap, ◌∙◌, arith, Bool, true, false, cond, ◌&&◌, Option, Some, None, IsTrue, nat_cmp, is_lt, inl, inr}
 use Rattle.std.specs.Prelude.{◌==◌, if◌then◌else◌}
 use Rattle.std.specs.Ordering.{eq_by_cmp}
 use Rattle.std.specs.FinMap.Entries.{below_all}
@@ -13,11 +13,8 @@ use Rattle.arena_script.specs.Things.{entry_then, entries_from, entries_below}
 pub tied : (x : ℕ) → eq_by_cmp nat_cmp x x ≡ true
 tied x = grind (arith, nat_tests)
 
-untied : (x y : ℕ) → x < y → eq_by_cmp nat_cmp y x ≡ false
-untied x y l = grind (arith, nat_tests)
-
-untied_below : (x y : ℕ) → x < y → eq_by_cmp nat_cmp x y ≡ false
-untied_below x y l = grind (arith, nat_tests)
+untied : (x y : ℕ) → x ≢ y → eq_by_cmp nat_cmp x y ≡ false
+untied x y other = grind (arith, nat_tests)
 
 later : (x y : ℕ) → x < y → is_lt (nat_cmp x y) ≡ true
 later x y l = grind (arith, nat_tests)
@@ -33,14 +30,14 @@ module _ {X : Type 0} (f : ℕ → Option X) where
   get_low : (n from q : ℕ) → q < from → get (entries_from n from f) q ≡ None
   unfolding entries_from
   get_low zero from q h = refl
-  get_low (suc n) from q h = passed (f from) from q _ (untied_below q from h) ∙ get_low n (from + 1) q (omega arith)
+  get_low (suc n) from q h = passed (f from) from q _ (untied q from (omega (arith, h))) ∙ get_low n (from + 1) q (omega arith)
 
   -- At the keys there is what the function gives,
   pub get_at : (n from q : ℕ) → from ≤ q → q < from + n → get (entries_from n from f) q ≡ f q
   unfolding entries_from
   get_at zero from q low high = absurd (omega arith)
   get_at (suc n) from q low high = elim (cases_lt from q) [
-    | inl more ↦ passed (f from) from q _ (untied from q more) ∙ get_at n (from + 1) q (omega arith) (omega arith)
+    | inl more ↦ passed (f from) from q _ (untied q from (omega (arith, more))) ∙ get_at n (from + 1) q (omega arith) (omega arith)
     | inr less ↦ here (f from) refl (omega arith) (get_low n (from + 1) q (omega arith))
   ]
     where
@@ -56,7 +53,7 @@ module _ {X : Type 0} (f : ℕ → Option X) where
   unfolding entries_from
   get_past zero from q h = refl
   get_past (suc n) from q h =
-      passed (f from) from q _ (untied from q (omega arith)) ∙ get_past n (from + 1) q (omega arith)
+      passed (f from) from q _ (untied q from (omega (arith, h))) ∙ get_past n (from + 1) q (omega arith)
 
   -- The keys rise.
   below_from : (n from k : ℕ) → k < from → below_all nat_cmp k (entries_from n from f) ≡ true
