@@ -37,7 +37,7 @@ use Rattle.arena_tree.proofs.Layers.{nodes_used, one_stmts}
 use Rattle.lint_reports.specs.Taking.{Taking}
 use Rattle.lint_reports.specs.Reports.{Reports, said}
 use Rattle.lint_reports.specs.declared.report.FileReport.{FileReport}
-use Rattle.lint_reports.specs.declared.report.FileReport.TheVariants.{Checked, Syntax, TooDeep, NumberTooBig, Full, Refused, OutOfMemory}
+use Rattle.lint_reports.specs.declared.report.FileReport.TheVariants.{Checked, Full, Refused, OutOfMemory}
 use Rattle.arena_lint.specs.Knowing.{Knows}
 use Rattle.arena_lint.specs.Linting.{Lints, Checks, LintsAsk, lint_bytes, no_place, unparsed_by}
 use Rattle.arena_lint.specs.Rooms.{ListHasStmts, IsLight}
@@ -162,14 +162,11 @@ module _ {bytes : List ℕ} {old new : View} {error : Option AllocError} (unused
 
   -- A text that has no tree is reported so.
   pub unparsed : (why : TreeErr) → ParsesInOnePass bytes old new (Err why) → Lints bytes old new (unparsed_by new.memory.state.is_growing why)
-  unparsed (tree.Syntax at) parsed = lints (Syntax at) parsed.0 tt (never (λ no. cc) (λ no. cc)) (λ no. absurd (cc)) (λ no. absurd (cc))
-  unparsed (tree.TooDeep at) parsed = lints (TooDeep at) parsed.0 tt (never (λ no. cc) (λ no. cc)) (λ no. absurd (cc)) (λ no. absurd (cc))
-  unparsed (tree.NumberTooBig at) parsed = lints (NumberTooBig at) parsed.0 tt (never (λ no. cc) (λ no. cc))
-      (λ no. absurd (cc)) (λ no. absurd (cc))
   unparsed (tree.AllocErr k) parsed = lints_unplaced new.memory.state.is_growing refl parsed.0
       (denied_more (λ size align asks. inl asks) parsed.1.denied) parsed.1.starved
       (λ still. let short = parsed.1.full still in record { still = still; short = omega (arith, short.short) })
   unparsed tree.OutOfMemory parsed = lints OutOfMemory tt parsed.0 (never (λ no. cc) (λ no. cc)) (λ no. absurd (cc)) (λ no. absurd (cc))
+  unparsed why parsed = lints _ parsed.0 tt (never (λ no. cc) (λ no. cc)) (λ no. absurd (cc)) (λ no. absurd (cc))
 
 -- What a walk over a tree spends.
 abbrev Walks : View → View → Tree → Option AllocError → Type 0
