@@ -7,10 +7,9 @@ use Rattle.arena_vec.specs.declared.vec.Vec.{Vec}
 use Rattle.tree_rules.specs.Tokens.{Word}
 use Rattle.tree_rules.specs.Reading.{State}
 use Rattle.tree_nodes.specs.declared.node.Node.{Node}
-use Rattle.tree_nodes.proofs.RowLemmas.{read_length}
 use Rattle.tree_nodes.proofs.SubtreeLemmas.{row_length}
 use Rattle.tree_nodes.proofs.WalkLemmas.{list_len}
-use Rattle.arena_tree.specs.Subtrees.{IsRowBuilt, IsRowRead}
+use Rattle.arena_tree.specs.Subtrees.{IsRowBuilt}
 use Rattle.arena_tree.specs.Parts.{IsTokenAt, Reads}
 use Rattle.arena_tree.specs.Layouts.{ListOf, LongerList, ListFor, IsDoubled, IsRoomFor, Entry, spell_to, row_before, AskedFor}
 
@@ -51,16 +50,21 @@ module _ {X : Type 0} {bytes : List ℕ} {at end : ℕ} {before behind : X → S
   asked_few first doubled few within fits size align (inr longer) = asked_doubled longer.0 doubled few within fits size align longer.1
 
   -- the list of all children, where this is the last one; and of four, where this one is behind them
-  module _ {old new : Memory} {list : Vec Node} {ns : List Node} (row : IsRowRead (row_before entry) old new list ns)
-      (doubled : IsDoubled 4 list.raw.cap) (within : list.raw.len ≤ list.raw.cap) where
-    pub asked_all : {more room : ℕ} → more ≡ length ns + 1 → room ≡ more → room ≤ 4 → (size align : ℕ)
-        → ListFor list.raw.len list.raw.cap more room size align → AskedFor bytes size align
-    asked_all is same few = asked_few (λ none. inl (omega (arith, none, within, read_length row, is, same))) doubled
-        (omega (arith, same, few)) within (omega (arith, read_length row, is))
+  module _ {len cap : ℕ} (many : ℕ) (long : length (row_before entry) ≡ len + many) (within : len ≤ cap) where
+    pub asked_all : {more room : ℕ} → more ≡ many + 1 → room ≡ more → room ≤ 4 → IsDoubled 4 cap → (size align : ℕ)
+        → ListFor len cap more room size align → AskedFor bytes size align
+    asked_all {more} {room} is same few =
+        let fit : len + more ≤ length (row_before entry) + 1 = omega (arith, long, is) in
+        let all : cap ≡ 0 → room ≡ length (row_before entry) + 1 = λ none. omega (arith, none, within, long, is, same) in
+        let low : more ≤ 4 = omega (arith, same, few) in
+        λ doubled. asked_few (λ none. inl (all none)) doubled low within fit
 
-    pub asked_four : length ns ≡ 4 → (size align : ℕ) → ListFor list.raw.len list.raw.cap (length ns) 8 size align → AskedFor bytes size align
-    asked_four four = asked_few (λ none. inr (omega (arith, none, within, read_length row, four), 3, refl)) doubled (omega (arith, four))
-        within (omega (arith, read_length row))
+    pub asked_four : many ≡ 4 → IsDoubled 4 cap → (size align : ℕ) → ListFor len cap many 8 size align → AskedFor bytes size align
+    asked_four four =
+        let fit : len + many ≤ length (row_before entry) + 1 = omega (arith, long) in
+        let few : cap ≡ 0 → 8 < 2 * (length (row_before entry) + 1) = λ none. omega (arith, none, within, long, four) in
+        let low : many ≤ 4 = omega (arith, four) in
+        λ doubled. asked_few (λ none. inr (few none, 3, refl)) doubled low within fit
 
   -- the same for one node, of those in the list
   pub asked_longer : {old new : Memory} {list : Vec Node} → IsRowBuilt (row_before entry) old new list → IsDoubled 1 list.raw.cap

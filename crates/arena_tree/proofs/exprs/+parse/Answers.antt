@@ -5,7 +5,7 @@ use Rattle.tree_rules.specs.Grammar.{ANumber, AName, InParens, Negated, OneFacto
 use Rattle.arena_tree.specs.Subtrees.{OfExpr}
 use Rattle.arena_tree.specs.Layouts.{ATerm, AFactor, ANegated, IsDoubled}
 use Rattle.tree_nodes.proofs.BuildLemmas.{prod_placed, number_placed}
-use Rattle.tree_nodes.proofs.RowLemmas.{row_none, read_none, read_more, read_frame, list_kept, exprs_built}
+use Rattle.tree_nodes.proofs.RowLemmas.{row_none, read_none, read_more, read_frame, read_length, list_kept, exprs_built}
 use Rattle.tree_nodes.proofs.SpendingLemmas.{spends_then, spends_more, asks_of, asks_any, frees, frees_then, range_length}
 use Rattle.arena_tree.proofs.AskedLemmas.{asked_name, asked_list, asked_all, asked_four}
 use Rattle.arena_tree.proofs.PartCostLemmas.{stops_more, arena_stops, text_stops, err_up_to, err_text}
@@ -176,8 +176,8 @@ factors-returns-in_err-all-clause-spends g t c = λ from old first.
     let k = c.in_ok-stop.ensures in
     let b = factor_more _ c.loop-stop.count i.few.0 i.nodes c.requires.nest k.spends r k.tree in
     let full = length-take c.loop-stop.count c.loop-stop.nodes in
-    err_up_to _ _ _ _ c.from_residual-in_err-all.ensures (arena_stops _ (asks_of (asked_all (AFactor r.part) r.read r.row i.doubled
-    i.held.within b.more (omega (arith, b.more, full, i.few, i.nodes)) (omega (arith, i.few)))
+    err_up_to _ _ _ _ c.from_residual-in_err-all.ensures (arena_stops _ (asks_of (asked_all (AFactor r.part) r.read _ (read_length r.row)
+    i.held.within b.more (omega (arith, b.more, full, i.few, i.nodes)) (omega (arith, i.few)) i.doubled)
     (put_all b c.in_err-all.ensures.spends (omega (arith, k.tree.within)) (omega arith))))
 
 pub factors-returns-in_default : goal.factors-returns-in_default
@@ -207,7 +207,7 @@ factors-returns-in_err-list-clause-spends g t c = λ from old first.
     let four = length-set c.loop-stop.nodes c.loop-stop.count c.factor.new.node ∙ i.nodes in
     let b = whole (factor_more _ c.loop-stop.count i.few.0 i.nodes c.requires.nest k.spends r k.tree) (four ∙ sym c.if-count-eq-FEW.true) in
     err_up_to _ _ _ _ c.from_residual-in_err-list.ensures (arena_stops _ (asks_of (asked_four (AFactor (Times r.part k.tree.part))
-    (reads_then b.read (reads_star c.requires.nest c.in-Some.ensures.some)) b.row i.doubled i.held.within four)
+    (reads_then b.read (reads_star c.requires.nest c.in-Some.ensures.some)) _ (read_length b.row) i.held.within four i.doubled)
     (put_all b c.in_err-list.ensures.spends (omega (arith, k.tree.within)) (omega arith))))
 
 pub factors-loop-stop-preserved-then-count-eq-FEW : goal.factors-loop-stop-preserved-then-count-eq-FEW
@@ -320,8 +320,8 @@ terms-returns-in_err-all-clause-spends g t c = λ from old first.
     let b = term_more _ c.loop-stop.count i.few.0 i.nodes c.requires.nest k.spends c.loop-stop.minus _ r k.tree
     c.in_ok-sign.ensures.spends c.in_ok-sign.ensures.tree in
     let full = length-take c.loop-stop.count c.loop-stop.nodes in
-    err_up_to _ _ _ _ c.from_residual-in_err-all.ensures (arena_stops _ (asks_of (asked_all (ATerm r.part c.loop-stop.minus) r.read r.row
-    i.doubled i.held.within b.more (omega (arith, b.more, full, i.few, i.nodes)) (omega (arith, i.few)))
+    err_up_to _ _ _ _ c.from_residual-in_err-all.ensures (arena_stops _ (asks_of (asked_all (ATerm r.part c.loop-stop.minus) r.read _ (read_length r.row)
+    i.held.within b.more (omega (arith, b.more, full, i.few, i.nodes)) (omega (arith, i.few)) i.doubled)
     (put_all b c.in_err-all.ensures.spends (omega (arith, k.tree.within)) (omega arith))))
 
 pub terms-returns-in_default : goal.terms-returns-in_default
@@ -356,7 +356,7 @@ terms-returns-in_err-list-clause-spends g t c = λ from old first.
     c.in_ok-sign.ensures.spends c.in_ok-sign.ensures.tree) (four ∙ sym c.if-count-eq-FEW.true) in
     err_up_to _ _ _ _ c.from_residual-in_err-list.ensures (arena_stops _ (asks_of
     (asked_four (ATerm (joined c.loop-stop.minus r.part k.tree.part) c.in-Some.less)
-    (reads_then b.read (reads_sign c.requires.nest c.in-Some.less c.in-Some.ensures.some)) b.row i.doubled i.held.within four)
+    (reads_then b.read (reads_sign c.requires.nest c.in-Some.less c.in-Some.ensures.some)) _ (read_length b.row) i.held.within four i.doubled)
     (put_all b c.in_err-list.ensures.spends (omega (arith, k.tree.within)) (omega arith))))
 
 pub terms-loop-stop-preserved-then-count-eq-FEW : goal.terms-loop-stop-preserved-then-count-eq-FEW
