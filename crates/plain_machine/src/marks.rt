@@ -67,7 +67,6 @@ impl PlainMachine {
     }
 }
 
-// The name's mark.
 fn mark_named(marks: &[(u32, PlainPoint)], name: u32) -> Option<PlainPoint>
     ensures { result ≡ machine.mark_named marks.now name }
 {
@@ -94,6 +93,7 @@ fn keep_to(marks: &mut Vec<(u32, PlainPoint)>, name: u32)
 }
 
 // Keeps the `n` oldest chunks.
+#[tactic(auto, using(crate::proofs::MarkLemmas::one_chunk_less))]
 pub(crate) fn keep_first(chunks: &mut Vec<PlainChunk>, n: u64)
     ensures { chunks.new.items ≡ first_chunks n chunks.old.items }
 {

@@ -68,6 +68,7 @@ impl PlainState {
     }
 
     // The size, rounded up to the least alignment.
+    #[tactic(auto, using(arena_rules::proofs::RoundingLemmas::up_ge, arena_rules::proofs::RoundingLemmas::layout_small))]
     fn padded(&self, layout: Layout) -> u64
         ensures value { result ≡ up layout.size self.now.min_align }
         ensures large { layout.size ≤ result }
@@ -123,6 +124,7 @@ impl PlainState {
     }
 
     // The most that a block of this size moves up.
+    #[tactic(auto, using(arena_rules::proofs::RoundingLemmas::down_le))]
     fn shrink_step(&self, size: u64, layout: Layout) -> u64
         requires { layout.size ≤ size }
         ensures value { result ≡ moves.shrink_step self.now size layout.size layout.align }

@@ -17,6 +17,7 @@ impl PlainMachine {
     /// # Errors
     ///
     /// Out of memory.
+    #[tactic(auto, using(crate::proofs::RunLemmas::run_more, crate::proofs::RunLemmas::run_none, crate::proofs::RunLemmas::run_done))]
     pub fn run_from(
         &mut self,
         alloc: Global,

@@ -54,6 +54,7 @@ impl PlainState {
         }
     }
 
+    #[tactic(auto, using(arena_rules::proofs::RoundingLemmas::min_align_power))]
     pub(crate) fn min_align(&self) -> u64
         ensures value { result ≡ self.now.min_align }
         ensures power { IsTrue (is_power result) }
@@ -183,6 +184,7 @@ impl PlainState {
     }
 
     // Allocates a block for which there is no place in the newest chunk.
+    #[tactic(auto, using(arena_rules::proofs::AllocLemmas::alloc_refused), unfolding(arena_rules::specs::Moves::alloc))]
     fn alloc_in_new(
         &mut self,
         alloc: Global,
@@ -208,6 +210,7 @@ impl PlainState {
     }
 
     /// Allocates a block where this many requests are refused. Returns `None` where there is no such step.
+    #[tactic(auto, unfolding(arena_rules::specs::Moves::alloc))]
     pub(crate) fn alloc(
         &mut self,
         alloc: Global,
@@ -229,6 +232,7 @@ impl PlainState {
     }
 
     /// Frees a block.
+    #[tactic(auto, using(arena_rules::proofs::ReturnLemmas::dealloc_at, arena_rules::proofs::ReturnLemmas::dealloc_elsewhere))]
     pub(crate) fn dealloc(&mut self, addr: u64, size: u64)
         requires { 0 < size → addr + size ≤ top_of self.old.chunks }
         ensures { self.new ≡ moves.dealloc self.old addr size }
@@ -248,6 +252,7 @@ impl PlainState {
     }
 
     /// Returns a mark of the present state.
+    #[tactic(auto, using(arena_rules::proofs::BackLemmas::own_accepted))]
     pub(crate) fn mark(&self) -> PlainPoint
         ensures value { result ≡ mark_of self.now }
         ensures accepted { IsTrue (accepts (mark_of self.now) self.now) }
@@ -259,6 +264,7 @@ impl PlainState {
     }
 
     /// Goes back to a mark: removes the newer chunks, and raises the cursor to the mark's if it is below.
+    #[tactic(auto, using(arena_rules::proofs::BackLemmas::back_valid))]
     pub(crate) fn back(&mut self, mark: PlainPoint)
         requires { IsTrue (accepts mark self.old) }
         ensures state { self.new ≡ back mark self.old }
@@ -269,18 +275,21 @@ impl PlainState {
     }
 
     /// Returns whether the block has no bytes, or is in the used part of one chunk.
+    #[tactic(auto, using(crate::proofs::SumLemmas::ends_below))]
     pub(crate) fn is_place_used(&self, place: Place) -> bool
         ensures { result ≡ places.is_place_used self.now place }
     {
         place.size == 0 || is_range_used(&self.chunks, place.addr, place.size)
     }
 
+    #[tactic(auto, using(crate::proofs::SumLemmas::sum_below, crate::proofs::SumLemmas::ends_below))]
     pub(crate) fn used_bytes(&self) -> u64
         ensures { result ≡ used_bytes self.now }
     {
         sum_of_used(&self.chunks)
     }
 
+    #[tactic(auto, using(crate::proofs::SumLemmas::sum_below))]
     pub(crate) fn allocated_bytes(&self) -> u64
         ensures { result ≡ allocated_bytes self.now }
     {
@@ -300,6 +309,7 @@ fn keep_newest(chunks: &mut Vec<PlainChunk>)
 }
 
 // Whether the `n` addresses from this one on are in the used part of one chunk.
+#[tactic(auto, using(crate::proofs::SumLemmas::none_past))]
 fn is_range_used(chunks: &[PlainChunk], addr: u64, n: u64) -> bool
     requires { All (λ c. (c.cursor ≤ data_end c) × (data_end c < 2 ^ 64)) chunks.now }
     ensures { result ≡ is_range_used chunks.now addr n }

@@ -1,7 +1,4 @@
 // Public items of sources of chunks, of blocks and of bytes.
-ghost use Rattle.std.specs.Prelude.{◌≡◌};
-ghost use Rattle.arena_rules.specs.Causes.{counted};
-
 use crate::kinds::{is_copy, is_error, is_plain, is_shown};
 use arena_chunks::bumpalo_alloc::{CannotReallocInPlace, Excess};
 use arena_chunks::{

@@ -1,9 +1,8 @@
-use Rattle.std.proofs.Common.{◌≡◌, ◌≢◌, ℕ, arith, refl, sym, ap, ne_eqb, length, List, Option}
+use Rattle.std.proofs.Common.{◌≡◌, ℕ, ap, List, Option}
 use Rattle.std.specs.Prelude.{slice_get}
-use Rattle.arena_rules.specs.Search.{asked}
 use Rattle.arena_rules.specs.Moves.{alloc}
 use Rattle.arena_rules.proofs.RoundingLemmas.{layout_power}
-use Rattle.arena_rules.proofs.AllocLemmas.{entry_of, valid_grown, alloc_refused}
+use Rattle.arena_rules.proofs.AllocLemmas.{entry_of, valid_grown}
 use Rattle.plain_machine.proofs.state.PlainState.alloc_in_new.Goals as goal
 
 -- the entry of a list that equals what was asked
@@ -25,18 +24,3 @@ unfolding alloc
 returns-in-Some-clause-step c =
     let at = entry _ _ _ c.args.refused _ _ c.in_ok-asked.ensures.value c.deref.ensures.value c.entry_at.ensures c.in-Some.is in
     rw (c.requires, at) c.alloc_in_chunk.ensures.step
-
-pub returns-then-len-refused-clause-step : goal.returns-then-len-refused-clause-step
-returns-then-len-refused-clause-step c =
-    let whole = ap length c.in_ok-asked.ensures.value in
-    sym (alloc_refused c.args.self.now c.args.layout.size c.args.layout.align c.args.refused c.requires
-    (omega (arith, whole, c.in_ok-asked.asked.ok)))
-
-pub returns-clause-step : goal.returns-clause-step
-unfolding alloc
-returns-clause-step c =
-    let at = entry _ _ _ c.args.refused _ _ c.in_ok-asked.ensures.value c.deref.ensures.value c.entry_at.ensures c.in_default.is in
-    let whole = ap length c.in_ok-asked.ensures.value in
-    let other : c.args.refused ≢ length (asked c.args.self.now c.args.layout.size c.args.layout.align) =
-    omega (arith, whole, c.in_ok-asked.asked.ok) in
-    rw (c.requires, at, ne_eqb _ _ other) refl

@@ -1,8 +1,8 @@
-use Rattle.std.proofs.Common.{◌+◌, ◌∙◌, ap, refl, sym, subst}
+use Rattle.std.proofs.Common.{◌+◌, ◌∙◌, ap, subst}
 use Rattle.arena_rules.specs.Rounding.{up}
 use Rattle.arena_rules.specs.State.{State, IsValid}
 use Rattle.arena_rules.proofs.RoundingLemmas.{min_align_power}
-use Rattle.arena_rules.proofs.ReturnLemmas.{is_return, dealloc_at, dealloc_elsewhere}
+use Rattle.arena_rules.proofs.ReturnLemmas.{is_return}
 use Rattle.plain_machine.proofs.ResizeLemmas.{block_top}
 use Rattle.plain_machine.proofs.state.PlainState.dealloc.Goals as goal
 
@@ -17,13 +17,3 @@ set_cursor-requires c =
     let valid = subst IsValid c.self.view_is c.self.invariant in
     let top = block_top c.args.self.now c.args.addr c.args.size valid at c.requires in
     (is_return c.args.self.now c.args.addr c.args.size c.round_up_to_unchecked-end.result valid at top end).valid
-
-pub returns-then-addr-cursor : goal.returns-then-addr-cursor
-returns-then-addr-cursor c =
-    let at = c.if-addr-cursor.true ∙ c.cursor.ensures in
-    let end = c.round_up_to_unchecked-end.ensures ∙ ap (λ (s : State). up (c.args.addr + c.args.size) s.min_align) c.self.view_is in
-    rw (c.set_cursor.ensures.state, end, dealloc_at c.args.self.now c.args.addr c.args.size at) refl
-
-pub returns-else-addr-cursor : goal.returns-else-addr-cursor
-returns-else-addr-cursor c = sym (dealloc_elsewhere c.args.self.now c.args.addr c.args.size
-    (λ same. c.if-addr-cursor.false (same ∙ sym c.cursor.ensures)))
