@@ -7,6 +7,7 @@ use Rattle.std.specs.Iterator.{AlwaysYields}
 use Rattle.std.proofs.lemmas.Iterator.{YieldsList}
 use Rattle.std.proofs.lemmas.List.{same_from_push}
 use Rattle.std.proofs.lemmas.List.Splits.{length-slice_split}
+use Rattle.example_language.proofs.SpellingLemmas.{taken}
 use Rattle.example_language.specs.Grammar.{SpellAll, NoTree}
 use Rattle.example_language.specs.Meaning.{Expr, Num, Var, Add, Mul, token_of, applied, only_tree, read, words_of, spaced, reading}
 use Rattle.arena.specs.Interner.{number_of}
@@ -242,24 +243,37 @@ room_left n not fits = search (rules, not, fits)
 pub no_room : (n : ℕ) → true ≡ (n == 64) → 64 ≤ n
 no_room n full = search (rules, full)
 
-module _ (text : List ℕ) (at : ℕ) (trees : List Expr) (word : List ℕ) (words : List (List ℕ)) (token : Token)
-    (rest : read at trees (word ∷ words) ≡ reading text) (is : token_of word ≡ Some token) where
-  pub few_read : applied token word trees ≡ None → reading text ≡ Err (Operands at)
-  few_read none = sym rest ∙ read-few at trees word words token is none
+module _ {S : Type 0} {steps : S → Option (Bor (List ℕ)) → S → Type 0} {text : List ℕ} {at : ℕ} {rows : Rows} {stack : List ℕ}
+    {iterator after : S} (before : IsReadTo steps text at rows stack iterator) (word : List ℕ)
+    (has : HasWord steps text at before.trees before.seen word after) (token : Token) (is : token_of word ≡ Some token) where
+  pub few_read : applied token word before.trees ≡ None → reading text ≡ Err (Operands at)
+  few_read none = sym has.rest ∙ read-few at before.trees word has.words token is none
 
-  module _ (rows : Rows) (stack : List ℕ) (index : ℕ) (more : List Expr) (some : applied token word trees ≡ Some more)
-      (holds : ArePlaced rows (stack ++ index ∷ []) more) where
-    waiting : length more ≡ length stack + 1
-    waiting = omega (arith, length-tops more, ap length holds.stack_is, length-append stack (index ∷ []))
+  module _ (now : Rows) (indices : List ℕ) (index : ℕ) (more : List Expr) (some : applied token word before.trees ≡ Some more)
+      (holds : ArePlaced now (indices ++ index ∷ []) more) where
+    waiting : length more ≡ length indices + 1
+    waiting = omega (arith, length-tops more, ap length holds.stack_is, length-append indices (index ∷ []))
 
-    pub few_waiting : length stack < 64 → length more ≤ 64
-    few_waiting room = omega (arith, room, waiting)
+    pub more_spelled : length indices < 64 → SpellAll more (before.seen ++ word ∷ [])
+    more_spelled room = taken token word before.trees more before.seen some is (omega (arith, room, waiting)) before.spelled
 
-    pub deep_read : 64 ≤ length stack → reading text ≡ Err (TooDeep at)
-    deep_read full = sym rest ∙ read-deep at trees word words token is more some (omega (arith, full, waiting))
+    pub deep_read : 64 ≤ length indices → reading text ≡ Err (TooDeep at)
+    deep_read full = sym has.rest ∙ read-deep at before.trees word has.words token is more some (omega (arith, full, waiting))
 
-    pub next_read : length stack < 64 → read (at + (length word + 1)) more words ≡ reading text
-    next_read room = sym (read-next at trees word words token is more some (omega (arith, room, waiting))) ∙ rest
+    -- The next word comes.
+    pub next_read : (after_now : Rows) (items : List ℕ) → length indices < 64 → after_now ≡ now → items ≡ indices ++ index ∷ []
+        → IsReadTo steps text (at + (length word + 1)) after_now items after
+    next_read after_now items room rows_are items_are = record {
+      trees = more;
+      words = has.words;
+      holds = record { rows_are = rows_are ∙ holds.rows_are; stack_is = items_are ∙ holds.stack_is };
+      seen = before.seen ++ word ∷ [];
+      words_are = has.words_are ∙ sym (append_assoc before.seen (word ∷ []) has.words);
+      spelled = more_spelled room;
+      rest = sym (read-next at before.trees word has.words token is more some (omega (arith, room, waiting))) ∙ has.rest;
+      place = has.place;
+      yields = has.yields;
+    }
 
 -- one index is left
 pub one_left : (text : List ℕ) (rows : Rows) (stack : List ℕ) (trees : List Expr) → ArePlaced rows stack trees → length stack ≡ 1

@@ -1,5 +1,5 @@
 -- Why a tree isn't continued.
-use Rattle.std.proofs.Common.{◌≡◌, ℕ, List, ◌∷◌, sym, subst, ap, ◌∙◌, Some, Result, Ok, Err, inl}
+use Rattle.std.proofs.Common.{◌≡◌, ℕ, List, sym, subst, ap, ◌∙◌, Some, Result, Ok, Err, inl, Bor, Option}
 use Rattle.std.specs.Prelude.{IfErr, OnOk}
 use Rattle.std.specs.Result.{IsErr, IsErrAnd}
 use Rattle.arena.specs.AllocErrorType.{AllocError}
@@ -8,7 +8,7 @@ use Rattle.arena.specs.Source.{View}
 use Rattle.arena.specs.SymbolsType.{Symbols}
 use Rattle.arena.specs.Vecs.{vec_list}
 use Rattle.example_language.specs.Building.{Takes}
-use Rattle.example_language.specs.Meaning.{Expr, token_of, read, reading}
+use Rattle.example_language.specs.Meaning.{token_of}
 use Rattle.example_language.specs.Nodes.{node_item}
 use Rattle.example_language.specs.Parsing.{NameRefused, StopsAt, Parses}
 use Rattle.example_language.specs.Placing.{Rows, rows_in, with_name}
@@ -16,7 +16,7 @@ use Rattle.example_language.specs.declared.parsing.ParseErr.{ParseErr}
 use Rattle.example_language.specs.declared.parsing.ParseErr.TheVariants.{Token as BadToken, Operands, TooDeep, Refused}
 use Rattle.example_language.specs.declared.parsing.Token.{Token}
 use Rattle.example_language.specs.declared.trees.Tree.{Tree}
-use Rattle.example_language.proofs.ReadingLemmas.{few_read}
+use Rattle.example_language.proofs.ReadingLemmas.{IsReadTo, HasWord, few_read}
 
 same_refused : (one two : AllocError) → ◌≡◌ {A = ParseErr} (Refused one) (Refused two) → one ≡ two
 same_refused one two is = cc
@@ -54,18 +54,19 @@ refused_parse old new text error (Ok tree) is stops = absurd is.1
 refused_parse old new text error (Err f) is stops = rw is.1 stops
 
 -- a token's node was refused
-module _ (old new : View) (text : List ℕ) (at : ℕ) (trees : List Expr) (word : List ℕ) (words : List (List ℕ)) (token : Token)
-    (rest : read at trees (word ∷ words) ≡ reading text) (is : token_of word ≡ Some token) (rows : Rows) (stack : List ℕ) where
-  wrong_token : (e : ParseErr) → Takes word token at rows stack trees (Err e)
+module _ {S : Type 0} {steps : S → Option (Bor (List ℕ)) → S → Type 0} (old new : View) {text : List ℕ} {at : ℕ} {before_rows : Rows}
+    {before_stack : List ℕ} {iterator after : S} (before : IsReadTo steps text at before_rows before_stack iterator) (word : List ℕ)
+    (has : HasWord steps text at before.trees before.seen word after) (token : Token) (is : token_of word ≡ Some token) (rows : Rows)
+    (stack : List ℕ) where
+  wrong_token : (e : ParseErr) → Takes word token at rows stack before.trees (Err e)
       → ((error : AllocError) → e ≡ Refused error → StopsAt text old new error) → Parses old new text (Err e)
   wrong_token (BadToken place) takes stops = absurd takes
-  wrong_token (Operands place) takes stops =
-      few_read text at trees word words token rest is takes.1 ∙ ap (λ (n : ℕ). Err (Operands n)) (sym takes.0)
+  wrong_token (Operands place) takes stops = few_read before word has token is takes.1 ∙ ap (λ (n : ℕ). Err (Operands n)) (sym takes.0)
   wrong_token (TooDeep place) takes stops = absurd takes
   wrong_token (Refused error) takes stops = stops error (λ i. Refused error)
 
   pub node_refused : (e : ParseErr) (result : Result Tree ParseErr) → IsErr result × IsErrAnd result (λ f. f ≡ e)
-      → Takes word token at rows stack trees (Err e)
+      → Takes word token at rows stack before.trees (Err e)
       → ((error : AllocError) → e ≡ Refused error → StopsAt text old new error) → Parses old new text result
   node_refused e (Ok tree) is_e takes stops = absurd is_e.1
   node_refused e (Err f) is_e takes stops = rw is_e.1 (wrong_token e takes stops)

@@ -140,6 +140,7 @@ fn node_of<C: ChunkSource>(
 ///
 /// The text's first error, which is `Token`, `Operands` or `TooDeep`. `Refused` with the arena's error, or with
 /// `CapacityOverflow` for a name of 4,294,967,296 letters or more. Blocks placed until then stay in the arena, unused.
+#[tactic(auto, using(crate::proofs::TreeLemmas::others_stay, crate::proofs::TreeLemmas::built_then))]
 pub fn parse<C: ChunkSource>(a: &mut Allocator<C>, src: &str) -> Result<Tree, ParseErr>
     ensures tree { IfOk result (IsBuilt a.old a.new) }
     ensures reading { Parses a.old a.new src.now result }

@@ -1,5 +1,4 @@
 use Rattle.example_language.specs.Parsing.{NameRefused}
-use Rattle.example_language.specs.Placing.{rows_in}
 use Rattle.example_language.specs.declared.parsing.Token.TheVariants.{Name}
 use Rattle.std.proofs.Common.{◌≡◌}
 use Rattle.arena.specs.AllocErrorType.{AllocError}
@@ -9,8 +8,7 @@ use Rattle.example_language.proofs.parsing.node_of.Goals as goal
 
 pub returns-in_err-add_name-in-Name-clause-takes : goal.returns-in_err-add_name-in-Name-clause-takes
 returns-in_err-add_name-in-Name-clause-takes g c trees placed =
-    refused_takes c.args.word.now c.args.token c.args.at (rows_in c.add_name.new.a.memory c.add_name.new.self)
-    c.args.stack.now.items trees c.from_residual.result _ c.from_residual.ensures
+    refused_takes _ _ _ _ _ trees c.from_residual.result _ c.from_residual.ensures
 
 pub returns-in_err-add_name-in-Name-clause-refused : goal.returns-in_err-add_name-in-Name-clause-refused
 returns-in_err-add_name-in-Name-clause-refused g c =
@@ -19,23 +17,19 @@ returns-in_err-add_name-in-Name-clause-refused g c =
 
 pub returns-in-Number-clause-takes : goal.returns-in-Number-clause-takes
 returns-in-Number-clause-takes g c trees placed =
-    rw c.in-Number.is (number_taken c.args.word.now c.args.at (rows_in c.args.a.now.memory c.args.tree.now)
-    c.args.stack.now.items trees placed c.in-Number.n)
+    rw c.in-Number.is (number_taken c.args.word.now c.args.at _ _ trees placed c.in-Number.n)
 
 pub returns-in_ok-add_name-in-Name-clause-takes : goal.returns-in_ok-add_name-in-Name-clause-takes
 returns-in_ok-add_name-in-Name-clause-takes g c trees placed =
     let added = c.in_ok-add_name-in-Name.ensures in
-    rw c.in-Name.is (name_taken c.args.word.now c.args.at (rows_in c.args.a.now.memory c.args.tree.now) c.args.stack.now.items
-    trees placed _ (rows_in c.add_name.new.a.memory c.add_name.new.self) added.rows added.number)
+    rw c.in-Name.is (name_taken c.args.word.now c.args.at _ _ trees placed _ _ added.rows added.number)
 
 pub returns-in_ok-left-in-Sum-clause-takes : goal.returns-in_ok-left-in-Sum-clause-takes
 returns-in_ok-left-in-Sum-clause-takes g c trees placed =
-    rw c.in-Sum.is (sum_taken c.args.word.now c.args.at (rows_in c.args.a.now.memory c.args.tree.now) c.args.stack.now.items
-    trees placed c.in_ok-left-in-Sum.left c.in_ok-left-in-Sum.right c.operands.new.stack.items
+    rw c.in-Sum.is (sum_taken c.args.word.now c.args.at _ _ trees placed c.in_ok-left-in-Sum.left c.in_ok-left-in-Sum.right _
     c.in_ok-left-in-Sum.ensures.items)
 
 pub returns-in_ok-left-in-Product-clause-takes : goal.returns-in_ok-left-in-Product-clause-takes
 returns-in_ok-left-in-Product-clause-takes g c trees placed =
-    rw c.in-Product.is (product_taken c.args.word.now c.args.at (rows_in c.args.a.now.memory c.args.tree.now)
-    c.args.stack.now.items trees placed c.in_ok-left-in-Product.left c.in_ok-left-in-Product.right
-    c.operands-in-Product.new.stack.items c.in_ok-left-in-Product.ensures.items)
+    rw c.in-Product.is (product_taken c.args.word.now c.args.at _ _ trees placed c.in_ok-left-in-Product.left
+    c.in_ok-left-in-Product.right _ c.in_ok-left-in-Product.ensures.items)

@@ -1,11 +1,10 @@
-use Rattle.std.proofs.Common.{◌≡◌, ℕ, ◌<◌, [], ◌∷◌, ◌++◌, length, sym, ap, ◌∙◌, arith, lit<, append_assoc, Some, inl, inr}
+use Rattle.std.proofs.Common.{◌≡◌, ℕ, ◌<◌, [], ◌∷◌, ◌++◌, length, sym, ap, ◌∙◌, arith, lit<, Some, inl, inr}
 use Rattle.std.proofs.lemmas.Iterator.Consumers.{YieldsList-at}
 use Rattle.std.proofs.lemmas.Iterator.Splits.{YieldsList-from_str_split}
 use Rattle.std.proofs.lemmas.List.Elements.{All-nil, All-same}
 use Rattle.example_language.specs.Placing.{rows_in, with_node}
-use Rattle.example_language.proofs.ReadingLemmas.{read_none, word_comes, words_end, read-bad, room_left, no_room, few_waiting, deep_read, next_read, one_left, not_one}
+use Rattle.example_language.proofs.ReadingLemmas.{read_none, word_comes, words_end, read-bad, room_left, no_room, more_spelled, deep_read, next_read, one_left, not_one}
 use Rattle.example_language.proofs.RefusalLemmas.{refused_parse, node_refused}
-use Rattle.example_language.proofs.SpellingLemmas.{taken}
 use Rattle.example_language.proofs.TreeLemmas.{list_length, built_then, others_stay, below_more}
 use Rattle.example_language.proofs.parsing.parse.Goals as goal
 
@@ -19,15 +18,6 @@ tokens-init g c =
           (c.new_in-tree.ensures.rows c.args.a.now.memory) (YieldsList-at c.into_iter-word-iterator.ensures.into_iter_gives
           (YieldsList-from_str_split 32 c.args.src.now (lit< tt) split.text split.has_more split.pattern));
     }
-
-pub node_of-requires-clause-tree : goal.node_of-requires-clause-tree
-node_of-requires-clause-tree g c = c.tokens.invariant.built.held
-
-pub node_of-requires-clause-stack : goal.node_of-requires-clause-stack
-node_of-requires-clause-stack g c = c.tokens.invariant.stack
-
-pub add_node-requires-clause-held : goal.add_node-requires-clause-held
-add_node-requires-clause-held g c = c.in_ok-node.ensures.moves.held
 
 pub overflow_add-at-in-tokens : goal.overflow_add-at-in-tokens
 overflow_add-at-in-tokens g c =
@@ -52,26 +42,10 @@ tokens-preserved g c =
       stack = All-same (λ (i : ℕ). i < m) c.push.new.self.items (c.node_of.new.stack.items ++ c.len-index.result ∷ [])
           c.push.ensures.items
           (below_more n m c.node_of.new.stack.items c.len-index.result node.stack c.len-index.ensures added.len);
-      reading = record {
-        trees = takes.0;
-        words = word.words;
-        holds = record {
-          rows_are = added.rows ∙ takes.2.rows_are;
-          stack_is = c.push.ensures.items ∙ ap (λ (n : ℕ). c.node_of.new.stack.items ++ n ∷ []) index ∙ takes.2.stack_is;
-        };
-        seen = before.seen ++ c.in-Some.word.now ∷ [];
-        words_are = word.words_are ∙ sym (append_assoc before.seen (c.in-Some.word.now ∷ []) word.words);
-        spelled = taken c.in-Some-token_of.token c.in-Some.word.now before.trees takes.0 before.seen takes.1
-            (sym c.in-Some-token_of.ensures)
-            (few_waiting c.args.src.now c.tokens.at before.trees c.in-Some.word.now word.words c.in-Some-token_of.token
-            word.rest (sym c.in-Some-token_of.ensures) (with_node rows c.in_ok-node.node) c.node_of.new.stack.items
-            (length rows.nodes) takes.0 takes.1 takes.2 room) before.spelled;
-        rest = next_read c.args.src.now c.tokens.at before.trees c.in-Some.word.now word.words c.in-Some-token_of.token
-            word.rest (sym c.in-Some-token_of.ensures) (with_node rows c.in_ok-node.node) c.node_of.new.stack.items
-            (length rows.nodes) takes.0 takes.1 takes.2 room;
-        place = word.place;
-        yields = word.yields;
-      };
+      reading = next_read before c.in-Some.word.now word c.in-Some-token_of.token (sym c.in-Some-token_of.ensures)
+          (with_node rows c.in_ok-node.node) c.node_of.new.stack.items (length rows.nodes) takes.0 takes.1 takes.2 _
+          c.push.new.self.items room added.rows
+          (c.push.ensures.items ∙ ap (λ (n : ℕ). c.node_of.new.stack.items ++ n ∷ []) index);
     }
 
 -- ---- Errors
@@ -82,17 +56,13 @@ returns-in_default-clause-reading g c =
     let word = word_comes _ before c.in-Some.word c.next.new.self c.in-Some.ensures.steps in
     sym word.rest ∙ read-bad c.tokens.at before.trees c.in-Some.word.now word.words (sym c.in_default.ensures)
 
-pub returns-in_default-clause-others : goal.returns-in_default-clause-others
-returns-in_default-clause-others g c = others_stay c.tokens.invariant.built
-
 pub returns-in_err-node-clause-reading : goal.returns-in_err-node-clause-reading
 returns-in_err-node-clause-reading g c =
     let before = c.tokens.invariant.reading in
     let word = word_comes _ before c.in-Some.word c.next.new.self c.in-Some.ensures.steps in
     let node = c.in_err-node.ensures in
-    node_refused c.args.a.now c.node_of.new.a c.args.src.now c.tokens.at before.trees c.in-Some.word.now word.words
-    c.in-Some-token_of.token word.rest (sym c.in-Some-token_of.ensures) (rows_in c.node_of.new.a.memory c.node_of.new.tree)
-    c.node_of.new.stack.items _ c.from_residual.result c.from_residual.ensures
+    node_refused c.args.a.now c.node_of.new.a before c.in-Some.word.now word c.in-Some-token_of.token (sym c.in-Some-token_of.ensures)
+    (rows_in c.node_of.new.a.memory c.node_of.new.tree) c.node_of.new.stack.items _ c.from_residual.result c.from_residual.ensures
     (node.takes before.trees before.holds) (λ error is. record {
       seen = before.seen;
       word = c.in-Some.word.now;
@@ -109,9 +79,6 @@ returns-in_err-node-clause-reading g c =
         refused = (node.refused error is).1;
       });
     })
-
-pub returns-in_err-node-clause-others : goal.returns-in_err-node-clause-others
-returns-in_err-node-clause-others g c = others_stay (built_then c.tokens.invariant.built c.in_err-node.ensures.moves)
 
 pub returns-in_err-add_node-clause-reading : goal.returns-in_err-add_node-clause-reading
 returns-in_err-add_node-clause-reading g c =
@@ -132,11 +99,8 @@ returns-in_err-add_node-clause-reading g c =
       refused = inr (record {
         trees = takes.0;
         node = c.in_ok-node.node;
-        spelled = taken c.in-Some-token_of.token c.in-Some.word.now before.trees takes.0 before.seen takes.1
-            (sym c.in-Some-token_of.ensures)
-            (few_waiting c.args.src.now c.tokens.at before.trees c.in-Some.word.now word.words c.in-Some-token_of.token
-            word.rest (sym c.in-Some-token_of.ensures) (with_node rows c.in_ok-node.node) c.node_of.new.stack.items
-            (length rows.nodes) takes.0 takes.1 takes.2 room) before.spelled;
+        spelled = more_spelled before c.in-Some.word.now word c.in-Some-token_of.token (sym c.in-Some-token_of.ensures)
+            (with_node rows c.in_ok-node.node) c.node_of.new.stack.items (length rows.nodes) takes.0 takes.1 takes.2 room;
         rows_are = takes.2.rows_are;
         refused = c.in_err-add_node.ensures.refused;
       });
@@ -152,12 +116,9 @@ returns-then-is_full-clause-reading g c =
     let word = word_comes _ before c.in-Some.word c.next.new.self c.in-Some.ensures.steps in
     let takes = c.in_ok-node.ensures.takes before.trees before.holds in
     let rows = rows_in c.node_of.new.a.memory c.node_of.new.tree in
-    deep_read c.args.src.now c.tokens.at before.trees c.in-Some.word.now word.words c.in-Some-token_of.token word.rest
-    (sym c.in-Some-token_of.ensures) (with_node rows c.in_ok-node.node) c.node_of.new.stack.items (length rows.nodes)
-    takes.0 takes.1 takes.2 (no_room (length c.node_of.new.stack.items) c.if-is_full.ensures.value)
-
-pub returns-then-is_full-clause-others : goal.returns-then-is_full-clause-others
-returns-then-is_full-clause-others g c = others_stay (built_then c.tokens.invariant.built c.in_ok-node.ensures.moves)
+    deep_read before c.in-Some.word.now word c.in-Some-token_of.token (sym c.in-Some-token_of.ensures)
+    (with_node rows c.in_ok-node.node) c.node_of.new.stack.items (length rows.nodes) takes.0 takes.1 takes.2
+    (no_room (length c.node_of.new.stack.items) c.if-is_full.ensures.value)
 
 pub returns-then-len-ne1-clause-reading : goal.returns-then-len-ne1-clause-reading
 returns-then-len-ne1-clause-reading g c =
@@ -166,13 +127,7 @@ returns-then-len-ne1-clause-reading g c =
     (λ one. let several = c.if-len-ne1.true in omega (arith, several, one, c.len.ensures))
     (words_end _ before c.next.new.self c.in-None.ensures.steps)
 
-pub returns-then-len-ne1-clause-others : goal.returns-then-len-ne1-clause-others
-returns-then-len-ne1-clause-others g c = others_stay c.tokens.invariant.built
-
 -- ---- The tree
-
-pub returns-clause-tree : goal.returns-clause-tree
-returns-clause-tree g c = c.tokens.invariant.built
 
 pub returns-clause-reading : goal.returns-clause-reading
 returns-clause-reading g c =
@@ -180,6 +135,3 @@ returns-clause-reading g c =
     one_left c.args.src.now _ c.tokens.stack.items before.trees before.holds
     (let one = c.if-len-ne1.false in omega (arith, one, c.len.ensures))
     (words_end _ before c.next.new.self c.in-None.ensures.steps)
-
-pub returns-clause-others : goal.returns-clause-others
-returns-clause-others g c = others_stay c.tokens.invariant.built

@@ -17,35 +17,21 @@ returns-in_err-push-clause-moves g c =
     nodes_moved c.args.a.now c.push.new.a tree (same_nodes push.err.0 push.err.1 held.nodes) push.frame stays.held stays.footprint stays.apart
     (list_counts 12 4 _ _ _ _ _ _ _ _ push.made)
 
-pub returns-clause-moves : goal.returns-clause-moves
-returns-clause-moves g c =
+pub returns : goal.returns
+returns g c =
     let tree = c.args.self.now in
     let held = c.requires.held in
     let push = c.in_ok-push.ensures in
     let stays = c.frame_law.ensures _ _ (tree.nodes.raw.block ∷ []) (c.push.new.self.raw.block ∷ []) tree.names
     push.frame held.names held.apart in
-    nodes_moved c.args.a.now c.push.new.a tree (one_node _ held.nodes c.requires.node push.held push.list_is) push.frame
-    stays.held stays.footprint stays.apart
-    (list_counts 12 4 _ _ _ _ _ _ _ _ push.made)
-
-pub returns-clause-len : goal.returns-clause-len
-returns-clause-len g c =
-    let list = vec_list node_item c.args.a.now.memory c.args.self.now.nodes in
-    omega (
-      arith,
-      c.in_ok-push.ensures.len,
-      length-append list (c.args.node ∷ []),
-      list_length c.args.a.now.memory c.args.self.now.nodes,
-    )
-
-pub returns-clause-rows : goal.returns-clause-rows
-returns-clause-rows g c =
-    let tree = c.args.self.now in
-    let held = c.requires.held in
-    let push = c.in_ok-push.ensures in
-    let stays = c.frame_law.ensures _ _ (tree.nodes.raw.block ∷ []) (c.push.new.self.raw.block ∷ []) tree.names
-    push.frame held.names held.apart in
-    λ i. record { names = stays.means i; nodes = push.list_is i }
+    let list = vec_list node_item c.args.a.now.memory tree.nodes in
+    record {
+      moves = nodes_moved c.args.a.now c.push.new.a tree (one_node _ held.nodes c.requires.node push.held push.list_is) push.frame
+          stays.held stays.footprint stays.apart (list_counts 12 4 _ _ _ _ _ _ _ _ push.made);
+      len = omega (arith, push.len, length-append list (c.args.node ∷ []), list_length c.args.a.now.memory tree.nodes);
+      rows = λ i. record { names = stays.means i; nodes = push.list_is i };
+      refused = tt;
+    }
 
 pub returns-in_err-push-clause-refused : goal.returns-in_err-push-clause-refused
 returns-in_err-push-clause-refused g c =
