@@ -43,16 +43,17 @@ unasked old new same = subst (λ (v : View). KeepsCount old.source v.source) (sy
 
 -- ---- A call on a block
 
-listed : (before after : Option (List (ℕ × ℕ))) (made : List (ℕ × ℕ))
-    → IfSome after (λ all. IsSomeAnd before (λ some. all ≡ some ++ made)) → ListsMore before after
-listed before None made is = tt
-listed None (Some all) made is = absurd is
-listed (Some some) (Some all) made is = (made, is)
+listed : (P : List (ℕ × ℕ) → List (ℕ × ℕ) → Type 0) (before after : Option (List (ℕ × ℕ)))
+    → ((some all : List (ℕ × ℕ)) → P some all → (made : List (ℕ × ℕ)) × (all ≡ some ++ made))
+    → IfSome after (λ all. IsSomeAnd before (λ some. P some all)) → ListsMore before after
+listed P before None adds is = tt
+listed P None (Some all) adds is = absurd is
+listed P (Some some) (Some all) adds is = adds some all is
 
 counted : {before after : Source} {k : ℕ} {made : List (ℕ × ℕ)} → IsAsked before after k made → KeepsCount before after
 counted {before = before} {after = after} {made = made} asked = record {
   refusals = omega (arith, asked.refusals);
-  requests = listed before.asked after.asked made asked.requests;
+  requests = listed (λ some all. all ≡ some ++ made) before.asked after.asked (λ some all is. (made, is)) asked.requests;
 }
 
 placed_counts : (old new : View) (size align : ℕ) (answer : Answer) → PlacesBlock old new size align answer
@@ -95,14 +96,11 @@ list_counts size align old new block cap required wanted f result made = elim (c
   ]
 ]
 
-added : (most : ℕ) (before after : Option (List (ℕ × ℕ)))
-    → IfSome after (λ all. IsSomeAnd before (λ some. AddsWithin most some all)) → ListsMore before after
-added most before None adds = tt
-added most None (Some all) adds = absurd adds
-added most (Some some) (Some all) adds = (adds.added, adds.all)
-
 pub interned_counts : {old new : View} {names after : Symbols} {text : List ℕ} {result : Result ℕ AllocError}
     → Interns old new names after text result → KeepsCount old.source new.source
 interned_counts {old = old} {new = new} interns =
     let asks = interns.pays.costs.asks in
-    record { refusals = asks.refusals; requests = added _ old.source.asked new.source.asked asks.told }
+    record {
+      refusals = asks.refusals;
+      requests = listed (AddsWithin _) old.source.asked new.source.asked (λ some all adds. (adds.added, adds.all)) asks.told;
+    }

@@ -42,13 +42,10 @@ deep : (token : Token) (word : List ℕ) (trees more : List Expr) → token_of w
 deep (Number n) word trees more is to fits over =
     (inr (n, is), omega (arith, fits, over, ap length (same_Some (Num n ∷ trees) more to)))
 deep Name word trees more is to fits over = (inl is, omega (arith, fits, over, ap length (same_Some (Var word ∷ trees) more to)))
-deep Sum word [] more is to fits over = absurd (none-some more to)
-deep Sum word (tree ∷ []) more is to fits over = absurd (none-some more to)
 deep Sum word (r ∷ l ∷ trees) more is to fits over = absurd (omega (arith, fits, over, ap length (same_Some (Add l r ∷ trees) more to)))
-deep Product word [] more is to fits over = absurd (none-some more to)
-deep Product word (tree ∷ []) more is to fits over = absurd (none-some more to)
 deep Product word (r ∷ l ∷ trees) more is to fits over =
     absurd (omega (arith, fits, over, ap length (same_Some (Mul l r ∷ trees) more to)))
+deep token word trees more is to fits over = absurd (none-some more to)
 
 spaced-push : (words : List (List ℕ)) (word : List ℕ) → spaced (words ++ word ∷ []) ≡ spaced words + (length word + 1)
 spaced-push [] word = omega arith

@@ -35,13 +35,10 @@ taken Name word trees more words to is fits all =
     let same = same_Some (Var word ∷ trees) more to in
     subst (λ (ts : List Expr). SpellAll ts (words ++ word ∷ [])) same
     (OneMore (Var word) trees words (word ∷ []) all (refl, is) (omega (arith, fits, ap length same)))
-taken Sum word [] more words to is fits all = absurd (none-some more to)
-taken Sum word (tree ∷ []) more words to is fits all = absurd (none-some more to)
 taken Sum word (r ∷ l ∷ trees) more words to is fits all =
     subst (λ (ts : List Expr). SpellAll ts (words ++ word ∷ [])) (same_Some (Add l r ∷ trees) more to)
     (joined l r trees words word Sum (Add l r) (λ own joins. joins) (λ left right. omega (arith, left, right)) is all)
-taken Product word [] more words to is fits all = absurd (none-some more to)
-taken Product word (tree ∷ []) more words to is fits all = absurd (none-some more to)
 taken Product word (r ∷ l ∷ trees) more words to is fits all =
     subst (λ (ts : List Expr). SpellAll ts (words ++ word ∷ [])) (same_Some (Mul l r ∷ trees) more to)
     (joined l r trees words word Product (Mul l r) (λ own joins. joins) (λ left right. omega (arith, left, right)) is all)
+taken token word trees more words to is fits all = absurd (none-some more to)

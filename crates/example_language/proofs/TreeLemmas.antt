@@ -31,9 +31,6 @@ use Rattle.example_language.specs.declared.trees.Tree.{Tree}
 pub list_length : (memory : Memory) (nodes : Vec Node) → length (vec_list node_item memory nodes) ≡ nodes.raw.len
 list_length memory nodes = length-elements 12 node_of nodes.raw.len (bytes_of memory nodes.raw.block)
 
-none_ordered : AreOrdered []
-none_ordered at n here = absurd (none-some n here)
-
 -- an item of a list to which one was appended
 got : {T : Type 0} (xs : List T) (y : T) (i : ℕ) (x : T) → slice_get (xs ++ y ∷ []) i ≡ Some x
     → (slice_get xs i ≡ Some x) ⊎ ((i ≡ length xs) × (y ≡ x))
@@ -52,7 +49,7 @@ more_ordered nodes node ordered after at n here = elim (got nodes node at n here
 -- a vector without values
 pub no_nodes : {memory : Memory} {nodes : Vec Node} → IsVecIn node_item memory nodes → vec_list node_item memory nodes ≡ []
     → AreNodesIn memory nodes
-no_nodes held none = record { held = held; ordered = subst AreOrdered (sym none) none_ordered }
+no_nodes held none = record { held = held; ordered = subst AreOrdered (sym none) (λ at n here. absurd (none-some n here)) }
 
 -- a node was appended
 pub one_node : {old new : Memory} {nodes more : Vec Node} (node : Node) → AreNodesIn old nodes → IsAfter nodes.raw.len node

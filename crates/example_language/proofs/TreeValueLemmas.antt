@@ -3,7 +3,7 @@ use Rattle.std.proofs.Common.{◌≡◌, ℕ, zero, suc, ◌+◌, ◌-◌, ◌*�
 use Rattle.std.specs.Prelude.{slice_get, slice_index, Option, unwrap_or, is_some, bytes_eq, if◌then◌else◌, Bool}
 use Rattle.std.specs.Option.{option_and_then}
 use Rattle.std.proofs.lemmas.Bool.{cases_Bool}
-use Rattle.std.proofs.lemmas.Option.{none-some, same_Some, get_or_from_slice_get}
+use Rattle.std.proofs.lemmas.Option.{none-some, same_Some, get_or_from_slice_get, option_and_then_some}
 use Rattle.std.proofs.lemmas.Slice.Eq.{bytes_eq-Decides}
 use Rattle.arena.specs.Interner.{number_of, with_text}
 use Rattle.arena.proofs.SymbolLayers.{number_push}
@@ -75,31 +75,23 @@ module _ (values : List ℕ) where
   abbrev with_value : Node → List ℕ → Option (List ℕ)
   with_value node before = option_and_then (λ (v : ℕ). Some (before ++ v ∷ [])) (node_value values before node)
 
-  more_by : (before : List ℕ) (nodes : List Node) (node : Node) (o : Option ℕ)
-      → ((now : List ℕ) → values_after values now (nodes ++ node ∷ []) ≡ option_and_then (with_value node) (values_after values now nodes))
-      → option_and_then (λ (v : ℕ). values_after values (before ++ v ∷ []) (nodes ++ node ∷ [])) o
-      ≡ option_and_then (with_value node) (option_and_then (λ (v : ℕ). values_after values (before ++ v ∷ []) nodes) o)
-  more_by before nodes node None rest = refl
-  more_by before nodes node (Some v) rest = rest (before ++ v ∷ [])
-
   one_more : (nodes : List Node) (node : Node) (before : List ℕ)
       → values_after values before (nodes ++ node ∷ []) ≡ option_and_then (with_value node) (values_after values before nodes)
   one_more [] node before = refl
-  one_more (first ∷ nodes) node before = more_by before nodes node (node_value values before first) (one_more nodes node)
+  one_more (first ∷ nodes) node before =
+      elim (node_value values before first) as (λ o. option_and_then (λ (v : ℕ). values_after values (before ++ v ∷ []) (nodes ++ node ∷ [])) o
+      ≡ option_and_then (with_value node) (option_and_then (λ (v : ℕ). values_after values (before ++ v ∷ []) nodes) o)) [
+        | None ↦ refl
+        | Some v ↦ one_more nodes node (before ++ v ∷ [])
+      ]
 
   -- each node has one value
-  count_by : (before after : List ℕ) (nodes : List Node) (o : Option ℕ)
-      → option_and_then (λ (v : ℕ). values_after values (before ++ v ∷ []) nodes) o ≡ Some after
-      → ((now : List ℕ) → values_after values now nodes ≡ Some after → length after ≡ length now + length nodes)
-      → length after ≡ length before + (length nodes + 1)
-  count_by before after nodes None is rest = absurd (none-some after is)
-  count_by before after nodes (Some v) is rest = omega (arith, rest (before ++ v ∷ []) is, length-append before (v ∷ []))
-
   count : (nodes : List Node) (after before : List ℕ) → values_after values before nodes ≡ Some after
       → length after ≡ length before + length nodes
   count [] after before is = omega (arith, ap length (same_Some before after is))
   count (node ∷ nodes) after before is =
-      omega (arith, count_by before after nodes (node_value values before node) is (count nodes after))
+      option_and_then_some (λ (v : ℕ). values_after values (before ++ v ∷ []) nodes) (node_value values before node) after is
+      (λ v own rest. omega (arith, count nodes after (before ++ v ∷ []) rest, length-append before (v ∷ [])))
 
   -- a name without a value
   none_then : (nodes : List Node) (node : Node) → values_after values [] nodes ≡ None

@@ -15,6 +15,7 @@ pub fn parsed_words()
 {}
 
 /// The value of the nodes that are placed for a tree is the value of the tree, where each name has the value with its number.
+#[tactic(auto, using(crate::proofs::TreeValueLemmas::value_placed))]
 pub fn placed_values()
     ensures { (values : List ℕ) (tree : Expr)
         → value_of values (placed tree no_rows).nodes ≡ tree_value values (placed tree no_rows).names tree }

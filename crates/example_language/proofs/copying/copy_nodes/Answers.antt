@@ -26,15 +26,14 @@ returns-in_err-copy-clause-refused g c =
           (vec_list node_item c.args.from.now.memory c.args.nodes.now) copy.placed.asked,
     )
 
-pub returns-clause-nodes : goal.returns-clause-nodes
-returns-clause-nodes g c =
-    let made = c.in_ok-copy.ensures.made in
+pub returns : goal.returns
+returns g c =
+    let copy = c.in_ok-copy.ensures in
     let same : vec_list node_item c.clone_in.new.to.memory c.in_ok-copy.copy
-    ≡ vec_list node_item c.args.from.now.memory c.args.nodes.now = sym (map-id _) ∙ made.means ∙ map-id _ ∙ map-id _ in
-    record { held = made.held.0; ordered = subst AreOrdered (sym same) c.requires.ordered }
-
-pub returns-clause-list : goal.returns-clause-list
-returns-clause-list g c = sym (map-id _) ∙ c.in_ok-copy.ensures.made.means ∙ map-id _ ∙ map-id _
-
-pub returns-clause-others : goal.returns-clause-others
-returns-clause-others g c = let copy = c.in_ok-copy.ensures in frame_forget _ _ [] copy.blocks copy.placed.frame
+    ≡ vec_list node_item c.args.from.now.memory c.args.nodes.now = sym (map-id _) ∙ copy.made.means ∙ map-id _ ∙ map-id _ in
+    record {
+      nodes = record { held = copy.made.held.0; ordered = subst AreOrdered (sym same) c.requires.ordered };
+      list = same;
+      refused = tt;
+      others = frame_forget _ _ [] copy.blocks copy.placed.frame;
+    }

@@ -13,9 +13,6 @@ returns-in_err-tree-clause-wrong g c =
 pub returns-in_err-tree-clause-others : goal.returns-in_err-tree-clause-others
 returns-in_err-tree-clause-others g c = frame_reflexive _ []
 
-pub copy_nodes-requires : goal.copy_nodes-requires
-copy_nodes-requires g c = c.in_ok-tree.ensures.tree.held.nodes
-
 pub returns-in_err-kept-clause-wrong : goal.returns-in_err-kept-clause-wrong
 returns-in_err-kept-clause-wrong g c =
     error_kept (NotKept c.args.first.now c.parse.new.a c.args.other.now c.copy_nodes.new.to c.args.src.now) _

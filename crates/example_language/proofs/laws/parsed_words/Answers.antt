@@ -1,8 +1,5 @@
 use Rattle.example_language.proofs.GrammarLemmas.{tree_spelled, first_wrong}
 use Rattle.example_language.proofs.laws.parsed_words.Goals as goal
 
-pub returns-clause-tree : goal.returns-clause-tree
-returns-clause-tree c = tree_spelled
-
-pub returns-clause-wrong : goal.returns-clause-wrong
-returns-clause-wrong c = first_wrong
+pub returns : goal.returns
+returns c = record { tree = tree_spelled; wrong = first_wrong }
