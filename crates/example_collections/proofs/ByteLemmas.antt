@@ -1,5 +1,5 @@
 -- Copies of a list of numbers.
-use Rattle.std.proofs.Common.{◌≡◌, ℕ, ◌*◌, ap, sym, ◌∙◌, Some, None, Option, List, [], ◌∷◌}
+use Rattle.std.proofs.Common.{List, [], ◌∷◌}
 use Rattle.std.specs.List.{AllByRecursion}
 
 -- Plain values have no conditions to be held.

@@ -1,5 +1,5 @@
 -- The bytes for which calls that append a value together ask.
-use Rattle.std.proofs.Common.{◌≡◌, ℕ, suc, ◌+◌, ◌*◌, ◌^◌, ◌<◌, ◌≤◌, ◌++◌, [], ◌∷◌, refl, sym, subst, arith, Ok, add-one}
+use Rattle.std.proofs.Common.{◌≡◌, ℕ, ◌+◌, ◌*◌, ◌^◌, ◌<◌, ◌≤◌, ◌++◌, [], ◌∷◌, refl, sym, subst, arith, Ok, add-one}
 use Rattle.std.proofs.Math.Nat.{mul-le-mul_right}
 use Rattle.arena_chunks.specs.Source.{View}
 use Rattle.arena_items.specs.declared.item.Item.{Ghosts}

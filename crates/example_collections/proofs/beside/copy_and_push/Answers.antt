@@ -7,70 +7,56 @@ use Rattle.arena_clone.proofs.Layers.{made_readable}
 use Rattle.example_collections.proofs.BesideLemmas.{first_apart, beside_apart, beside_frame}
 use Rattle.example_collections.proofs.beside.copy_and_push.Goals as goal
 
-pub returns-in_err-copy-clause-calls : goal.returns-in_err-copy-clause-calls
-returns-in_err-copy-clause-calls g c =
-    let p = err_from_is_err_and c.from_residual.result c.from_residual.ensures.1 in
-    rw (p.1, p.2)
-    (record { between = c.clone_within.new.a; copied = _; copies = c.in_err-copy.ensures; pushes = (refl, refl, refl) })
-
-pub returns-in_err-copy-clause-refused : goal.returns-in_err-copy-clause-refused
-returns-in_err-copy-clause-refused g c =
+pub returns-in_err-copy : goal.returns-in_err-copy
+returns-in_err-copy g c =
     let p = err_from_is_err_and c.from_residual.result c.from_residual.ensures.1 in
     let copy = c.in_err-copy.ensures in
     let stays = c.frame_law.ensures c.args.a.now.memory c.clone_within.new.a.memory [] copy.blocks c.args.list.now copy.placed.frame
     c.requires.held.0 (tt, tt) in
-    rw p.1 (refl, stays.means)
-
-pub returns-in_err-push-clause-calls : goal.returns-in_err-push-clause-calls
-returns-in_err-push-clause-calls g c =
-    let p = err_from_is_err_and c.from_residual-in_err-push.result c.from_residual-in_err-push.ensures.1 in
     rw (p.1, p.2) (record {
-      between = c.clone_within.new.a;
-      copied = _;
-      copies = c.in_ok-copy.ensures;
-      pushes = (_, c.in_err-push.ensures, refl);
+      calls = record { between = c.clone_within.new.a; copied = _; copies = copy; pushes = (refl, refl, refl) };
+      copy = tt;
+      list = tt;
+      refused = (refl, stays.means);
     })
 
-pub returns-in_err-push-clause-refused : goal.returns-in_err-push-clause-refused
-returns-in_err-push-clause-refused g c =
+pub returns-in_err-push : goal.returns-in_err-push
+returns-in_err-push g c =
     let p = err_from_is_err_and c.from_residual-in_err-push.result c.from_residual-in_err-push.ensures.1 in
     let copy = c.in_ok-copy.ensures in
     let stays = c.frame_law.ensures c.args.a.now.memory c.clone_within.new.a.memory [] copy.blocks c.args.list.now copy.placed.frame
     c.requires.held.0 (tt, tt) in
     let left = c.in_err-push.ensures.err in
-    rw p.1 (left.0, rw (left.0, left.1) stays.means)
+    rw (p.1, p.2) (record {
+      calls = record { between = c.clone_within.new.a; copied = _; copies = copy; pushes = (_, c.in_err-push.ensures, refl) };
+      copy = tt;
+      list = tt;
+      refused = (left.0, rw (left.0, left.1) stays.means);
+    })
 
-pub returns-clause-calls : goal.returns-clause-calls
-returns-clause-calls g c = record {
-  between = c.clone_within.new.a;
-  copied = _;
-  copies = c.in_ok-copy.ensures;
-  pushes = (_, c.in_ok-push.ensures, refl);
-}
-
-pub returns-clause-copy : goal.returns-clause-copy
-returns-clause-copy g c =
+pub returns : goal.returns
+returns g c =
     let copy = c.in_ok-copy.ensures in
     let old = c.args.a.now.memory in
     let mid = c.clone_within.new.a.memory in
     let new = c.push.new.a.memory in
     let before = c.args.list.now.raw.block in
     let after = c.push.new.self.raw.block in
+    let stays = c.frame_law.ensures old mid [] copy.blocks c.args.list.now copy.placed.frame c.requires.held.0 (tt, tt) in
     let kind = vec_of g.T.Item g.T.CloneIn.kind in
     let is = vec_lawful g.T.Item g.T.CloneIn.kind g.met.T.CloneIn.lawful in
     let all = c.copy_law.ensures.apart old mid copy.blocks c.args.list.now copy.placed.frame c.requires.held in
     let apart = first_apart copy.blocks _ before all in
     let made = c.copy_law.ensures.copy mid new copy.blocks (before ∷ []) (after ∷ []) _ c.in_ok-copy.copy copy.made c.push.ensures.frame
-    apart in (
-      copy.blocks,
-      subst (λ meaning. IsMade kind meaning new copy.blocks c.in_ok-copy.copy) (c.copy_law.ensures.ids _) made,
-      beside_apart mid new copy.blocks before after c.push.ensures.frame (made_readable is copy.made) apart copy.placed.apart,
-      beside_frame old mid new copy.blocks before after copy.placed.frame c.push.ensures.frame,
-    )
-
-pub returns-clause-list : goal.returns-clause-list
-returns-clause-list g c =
-    let copy = c.in_ok-copy.ensures in
-    let stays = c.frame_law.ensures c.args.a.now.memory c.clone_within.new.a.memory [] copy.blocks c.args.list.now copy.placed.frame
-    c.requires.held.0 (tt, tt) in
-    c.in_ok-push.ensures.list_is ∙ ap (λ (xs : List g.row.T.Denot). xs ++ c.args.value ∷ []) stays.means
+    apart in
+    record {
+      calls = record { between = c.clone_within.new.a; copied = _; copies = copy; pushes = (_, c.in_ok-push.ensures, refl) };
+      copy = (
+        copy.blocks,
+        subst (λ meaning. IsMade kind meaning new copy.blocks c.in_ok-copy.copy) (c.copy_law.ensures.ids _) made,
+        beside_apart mid new copy.blocks before after c.push.ensures.frame (made_readable is copy.made) apart copy.placed.apart,
+        beside_frame old mid new copy.blocks before after copy.placed.frame c.push.ensures.frame,
+      );
+      list = c.in_ok-push.ensures.list_is ∙ ap (λ (xs : List g.row.T.Denot). xs ++ c.args.value ∷ []) stays.means;
+      refused = tt;
+    }

@@ -9,15 +9,7 @@ use Rattle.example_collections.proofs.taking.take_front.Goals.{in-Some, in_defau
 
 pub loop-place-init : goal.loop-place-init
 loop-place-init g c = record {
-  same = record {
-    drains = c.drain-gone.ensures.drains;
-    same_vec = refl;
-    same_arena = refl;
-    vec = refl;
-    arena = refl;
-    start = refl;
-    end = refl;
-  };
+  same = grind (arith, c.drain-gone.ensures.drains);
   rest = refl;
   taken = refl;
 }
