@@ -36,20 +36,6 @@ next_tree rows node stack trees tree rows_are stack_is = record {
     at : length rows.nodes ≡ last_of (placed tree (all_placed trees))
     at = omega (arith, length-append rows.nodes (node ∷ []), ap (λ (r : Rows). length r.nodes) rows_are)
 
--- fewer than two operands
-pub too_few : (word stack : List ℕ) (trees : List Expr) → stack ≡ tops trees → length stack < 2
-    → (applied SumSign word trees ≡ None) × (applied ProductSign word trees ≡ None)
-too_few word stack [] is few = (refl, refl)
-too_few word stack (tree ∷ []) is few = (refl, refl)
-too_few word stack (right ∷ left ∷ trees) is few =
-    absurd (omega (
-      arith,
-      few,
-      ap length is,
-      length-append (tops trees ++ last_of (all_placed (left ∷ trees)) ∷ []) (last_of (all_placed (right ∷ left ∷ trees)) ∷ []),
-      length-append (tops trees) (last_of (all_placed (left ∷ trees)) ∷ []),
-    ))
-
 -- The last two indices are those of two trees.
 record LastTwo (trees : List Expr) (stack : List ℕ) (l r : ℕ) : Type 0 where
   left : Expr

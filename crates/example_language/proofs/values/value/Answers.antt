@@ -7,13 +7,6 @@ use Rattle.example_language.proofs.TreeLemmas.{list_length}
 use Rattle.example_language.proofs.ValueLemmas.{value_more, value_none, value_last}
 use Rattle.example_language.proofs.values.value.Goals as goal
 
-pub each-init : goal.each-init
-each-init g c = record {
-  count = c.new-values.ensures.len;
-  values = ap (λ (vs : List ℕ). values_after c.args.names.now vs (vec_list node_item c.args.a.now.memory c.args.nodes.now))
-      c.new-values.ensures.items;
-}
-
 -- The operands are below the node's index, which is how many values there are.
 pub node_value-requires : goal.node_value-requires
 node_value-requires g c =
