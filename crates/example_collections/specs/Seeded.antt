@@ -1,5 +1,5 @@
 -- Hashes with a seed.
-use Rattle.std.specs.Prelude.{ℕ, ◌+◌, ◌*◌, ◌%◌, ◌^◌, List, fold}
+use Rattle.std.specs.Prelude.{ℕ, ◌+◌, ◌-◌, ◌*◌, ◌%◌, ◌^◌, List, fold}
 use Rattle.std.specs.Int.{w64, rotate_left}
 
 -- 2 ^ 61 - 1

@@ -1,8 +1,5 @@
-use Rattle.std.proofs.Common.{[], ◌∷◌}
 use Rattle.example_collections.proofs.pushing.push_beside.Goals as goal
 
 pub returns-clause-other : goal.returns-clause-other
 returns-clause-other g c =
-    (c.frame_law.ensures _ _ (c.args.vec.now.raw.block ∷ []) (c.push.new.self.raw.block ∷ []) c.args.other c.push.ensures.frame
-    c.requires.other
-    ((c.requires.apart, tt), tt)).means
+    (c.frame_law.ensures _ _ _ _ c.args.other c.push.ensures.frame c.requires.other ((c.requires.apart, tt), tt)).means
