@@ -226,9 +226,6 @@ module _ {S : Type 0} (steps : S → Option (Bor (List ℕ)) → S → Type 0) w
 pub room_left : (n : ℕ) → false ≡ (n == 64) → n ≤ 64 → n < 64
 room_left n not fits = search (rules, not, fits)
 
-pub no_room : (n : ℕ) → true ≡ (n == 64) → 64 ≤ n
-no_room n full = search (rules, full)
-
 module _ {S : Type 0} {steps : S → Option (Bor (List ℕ)) → S → Type 0} {text : List ℕ} {at : ℕ} {rows : Rows} {stack : List ℕ}
     {iterator after : S} (before : IsReadTo steps text at rows stack iterator) (word : List ℕ)
     (has : HasWord steps text at before.trees before.seen word after) (token : Token) (is : token_of word ≡ Some token) where

@@ -1,9 +1,9 @@
-use Rattle.std.proofs.Common.{◌≡◌, ℕ, ◌<◌, [], ◌∷◌, ◌++◌, length, sym, ap, ◌∙◌, arith, lit<, Some, inl, inr}
+use Rattle.std.proofs.Common.{◌≡◌, ℕ, ◌<◌, [], ◌∷◌, ◌++◌, length, sym, ap, ◌∙◌, arith, lit<, rules, Some, inl, inr}
 use Rattle.std.proofs.lemmas.Iterator.Consumers.{YieldsList-at}
 use Rattle.std.proofs.lemmas.Iterator.Splits.{YieldsList-from_str_split}
 use Rattle.std.proofs.lemmas.List.Elements.{All-nil, All-same}
 use Rattle.example_language.specs.Placing.{rows_in, with_node}
-use Rattle.example_language.proofs.ReadingLemmas.{read_none, word_comes, words_end, read-bad, room_left, no_room, more_spelled, deep_read, next_read, one_left, not_one}
+use Rattle.example_language.proofs.ReadingLemmas.{read_none, word_comes, words_end, read-bad, room_left, more_spelled, deep_read, next_read, one_left, not_one}
 use Rattle.example_language.proofs.RefusalLemmas.{refused_parse, node_refused}
 use Rattle.example_language.proofs.TreeLemmas.{list_length, built_then, others_stay, below_more}
 use Rattle.example_language.proofs.parsing.parse.Goals as goal
@@ -118,7 +118,7 @@ returns-then-is_full-clause-reading g c =
     let rows = rows_in c.node_of.new.a.memory c.node_of.new.tree in
     deep_read before c.in-Some.word.now word c.in-Some-token_of.token (sym c.in-Some-token_of.ensures)
     (with_node rows c.in_ok-node.node) c.node_of.new.stack.items (length rows.nodes) takes.0 takes.1 takes.2
-    (no_room (length c.node_of.new.stack.items) c.if-is_full.ensures.value)
+    (let full = c.if-is_full.ensures.value in search (rules, full))
 
 pub returns-then-len-ne1-clause-reading : goal.returns-then-len-ne1-clause-reading
 returns-then-len-ne1-clause-reading g c =
