@@ -181,10 +181,7 @@ module _ (bytes : List ℕ) (all : List (List ℕ)) (rest : List ℕ) (seen : �
   whole = sym (take-append-drop seen rest) ∙ ap (λ xs. before ++ xs) is.all
 
   pub seen_within : seen + length line ≤ length rest
-  seen_within = omega (arith, ap length whole, counted, length_both)
-    where
-      length_both : length (before ++ (line ++ is.behind)) ≡ length before + (length line + length is.behind)
-      length_both = length-append before (line ++ is.behind) ∙ ap (λ n. length before + n) (length-append line is.behind)
+  seen_within = omega (arith, ap length whole, counted, length-append before (line ++ is.behind), length-append line is.behind)
 
   some : seen ≢ length rest → line ≢ []
   some more none = more (omega (arith, cut.within, length-drop seen rest, ap length (is.none none)))

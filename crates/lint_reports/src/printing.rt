@@ -79,6 +79,7 @@ fn put_at(out: &mut Vec<u8>, words: &[u8], at: u64)
 }
 
 // Appends the lines of a report after the one of its source.
+#[tactic(auto, using(crate::proofs::ReportLemmas::finding_lines))]
 fn put_lines(out: &mut Vec<u8>, report: &FileReport)
     requires { vec_len out.old + (findings_room report.now + 39) ≤ vec_capacity out.old }
     ensures { out.new.items ≡ out.old.items ++ flat_map with_feed (report_lines report.now) }

@@ -34,6 +34,7 @@ fn unsigned_len(bytes: &[u8]) -> usize
 }
 
 // How many bytes can be skipped at once, since no mark is among their lines.
+#[tactic(auto, using(crate::proofs::SourceLemmas::passed))]
 fn passed_len(bytes: &[u8]) -> usize
     ensures { IsPassed bytes.now result }
 {
@@ -41,6 +42,7 @@ fn passed_len(bytes: &[u8]) -> usize
 }
 
 // The first line with its line feed, if it has one.
+#[tactic(auto, using(crate::proofs::SourceLemmas::first_fed, crate::proofs::SourceLemmas::first_unfed))]
 fn first_line(bytes: &[u8]) -> &[u8]
     ensures { IsFirstLine bytes.now result.now }
 {

@@ -1,15 +1,7 @@
-use Rattle.std.proofs.Common.{[], ◌∷◌, ◌++◌, codes, ap, ◌∙◌}
-use Rattle.std.specs.List.{flat_map}
+use Rattle.std.proofs.Common.{[], ◌∷◌, ◌++◌, codes}
 use Rattle.call_rules.specs.Grammar.{fields}
-use Rattle.lint_reports.specs.Room.{fed_finding}
-use Rattle.lint_reports.proofs.ReportLemmas.{finding_lines, only_line}
+use Rattle.lint_reports.proofs.ReportLemmas.{only_line}
 use Rattle.lint_reports.proofs.printing.put_lines.Goals as goal
-
-pub returns-in-Checked : goal.returns-in-Checked
-returns-in-Checked c = rw c.in-Checked.is (
-    c.put_all.ensures.items
-    ∙ ap (λ xs. c.args.out.now.items ++ xs) (ap (flat_map fed_finding) c.as_slice.ensures ∙ finding_lines c.in-Checked.findings)
-    )
 
 pub returns-in-Syntax : goal.returns-in-Syntax
 returns-in-Syntax c = rw c.in-Syntax.is

@@ -1,11 +1,7 @@
 use Rattle.std.proofs.Common.{All, ◌≢◌, subst, arith}
 use Rattle.std.proofs.lemmas.List.{take_all}
-use Rattle.lint_reports.proofs.SourceLemmas.{first_fed, first_unfed}
+use Rattle.lint_reports.proofs.SourceLemmas.{first_unfed}
 use Rattle.lint_reports.proofs.sources.first_line.Goals as goal
-
-pub returns-then-n-bytes : goal.returns-then-n-bytes
-returns-then-n-bytes c = first_fed c.args.bytes.now c.len_before-n.result c.if-n-bytes.true c.len_before-n.ensures.before
-    (c.len_before-n.ensures.found c.if-n-bytes.true)
 
 pub returns-else-n-bytes : goal.returns-else-n-bytes
 returns-else-n-bytes c = first_unfed c.args.bytes.now
