@@ -1,6 +1,5 @@
 -- How many sources an input has, and how long they are.
-use Rattle.std.proofs.Common.{◌≡◌, ℕ, ◌+◌, ◌≤◌, Bool, true, false, List, [], ◌∷◌, length, map, refl, ap, ◌∙◌, subst, arith}
-use Rattle.std.specs.Prelude.{◌==◌, if◌then◌else◌}
+use Rattle.std.proofs.Common.{◌≡◌, ℕ, ◌+◌, ◌≤◌, Bool, true, false, List, [], ◌∷◌, length, map, refl, subst, arith}
 use Rattle.std.specs.List.{AllByRecursion, slice_split, onto_first}
 use Rattle.std.proofs.lemmas.List.{length-append, length-map}
 use Rattle.std.proofs.lemmas.List.Sums.{count_by-le-length}
@@ -16,12 +15,7 @@ few_onto b (line ∷ lines) = omega arith
 
 few_lines : (bytes : List ℕ) → length (fed_lines bytes) ≤ length bytes
 few_lines [] = omega arith
-few_lines (b ∷ bytes) = step (b == 10) (few_lines bytes)
-  where
-    step : (t : Bool) → length (fed_lines bytes) ≤ length bytes
-        → length (if t then (b ∷ []) ∷ fed_lines bytes else onto_first b (fed_lines bytes)) ≤ length (b ∷ bytes)
-    step true few = omega (arith, few)
-    step false few = omega (arith, few, few_onto b (fed_lines bytes))
+few_lines (b ∷ bytes) = grind (arith, few_lines bytes, few_onto b (fed_lines bytes))
 
 joined_onto : (b : ℕ) (lines : List (List ℕ)) → joined (onto_first b lines) ≡ b ∷ joined lines
 joined_onto b [] = refl
@@ -29,12 +23,7 @@ joined_onto b (line ∷ lines) = refl
 
 joined_lines : (bytes : List ℕ) → joined (fed_lines bytes) ≡ bytes
 joined_lines [] = refl
-joined_lines (b ∷ bytes) = step (b == 10) (joined_lines bytes)
-  where
-    step : (t : Bool) → joined (fed_lines bytes) ≡ bytes
-        → joined (if t then (b ∷ []) ∷ fed_lines bytes else onto_first b (fed_lines bytes)) ≡ b ∷ bytes
-    step true all = ap (λ xs. b ∷ xs) all
-    step false all = joined_onto b (fed_lines bytes) ∙ ap (λ xs. b ∷ xs) all
+joined_lines (b ∷ bytes) = grind (arith, joined_lines bytes, joined_onto b (fed_lines bytes))
 
 -- ---- Sources
 

@@ -4,7 +4,6 @@ use Rattle.std.specs.Prelude.{◌==◌, ◌&&◌, ◌||◌, nat_eq, if◌then◌
 use Rattle.std.specs.List.{slice_split, onto_first, slice_index}
 use Rattle.std.specs.Cmp.Lexicographic.{pointwise}
 use Rattle.std.proofs.Math.Seq.{take-append-add, drop-append-add, drop-length, take-append_seam, drop-append_seam}
-use Rattle.std.proofs.lemmas.Bool.{eq-eqb}
 use Rattle.std.proofs.lemmas.Bool.Decides.{nat_tests}
 use Rattle.std.proofs.lemmas.List.{append-nil, length-append, length-drop, length-take-le, take-append-drop}
 use Rattle.std.proofs.lemmas.List.Elements.{All-head, All-tail}
@@ -16,14 +15,11 @@ use Rattle.lint_reports.specs.Sources.{fed_lines, is_mark, joined, sources, onto
 abbrev other : ℕ → Type 0
 other b = b ≢ 10
 
-abbrev lines_behind : ℕ → List ℕ → Bool → List (List ℕ)
-lines_behind b bytes t = if t then (b ∷ []) ∷ fed_lines bytes else onto_first b (fed_lines bytes)
-
 fed : (b : ℕ) (bytes : List ℕ) → b ≡ 10 → fed_lines (b ∷ bytes) ≡ (b ∷ []) ∷ fed_lines bytes
-fed b bytes is = ap (lines_behind b bytes) (eq-eqb b 10 is)
+fed b bytes is = grind (arith, nat_tests)
 
 unfed : (b : ℕ) (bytes : List ℕ) → b ≢ 10 → fed_lines (b ∷ bytes) ≡ onto_first b (fed_lines bytes)
-unfed b bytes differs = let test : (b == 10) ≡ false = grind (arith, nat_tests) in ap (lines_behind b bytes) test
+unfed b bytes differs = grind (arith, nat_tests)
 
 fed_at : (bytes : List ℕ) (n : ℕ) → n < length bytes → All other (take n bytes) → slice_index bytes n ≡ 10
     → fed_lines bytes ≡ take (suc n) bytes ∷ fed_lines (drop (suc n) bytes)
