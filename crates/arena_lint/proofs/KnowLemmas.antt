@@ -24,23 +24,10 @@ zip_weaker R S follows _ _ all = absurd all
 
 -- ---- Whether a name is known
 
--- What is outside is seen where nothing is inside.
-seen_outside : (a b : Option ℕ) → is_some a ≡ false → is_some (seen a b) ≡ is_some b
-seen_outside a b none = grind arith
-
--- One scope more has what its own set has.
-meant_more : (scope : List (ℕ × ℕ)) (scopes : List (List (ℕ × ℕ))) (o : Option ℕ)
-    → is_some (meant (scope ∷ scopes) o) ≡ (has_number scope o || is_some (meant scopes o))
-meant_more scope scopes o = grind arith
-
-no_meaning : (o : Option ℕ) → is_some (meant [] o) ≡ false
-no_meaning o = grind arith
-
 pub known_has : (texts : List (List ℕ)) (sets : List NameSet) (scopes : List (List (ℕ × ℕ))) (name : List ℕ) → AreScopes texts sets scopes
     → is_some (meant scopes (number_of texts name)) ≡ have_name sets name
-known_has texts [] [] name are = no_meaning (number_of texts name)
-known_has texts (names ∷ sets) (scope ∷ scopes) name are =
-    rw (meant_more scope scopes (number_of texts name), known_has texts sets scopes name are.1, are.0.same name) refl
+known_has texts [] [] name are = grind arith
+known_has texts (names ∷ sets) (scope ∷ scopes) name are = grind (arith, known_has texts sets scopes name are.1, are.0.same name)
 known_has texts _ _ name are = absurd are
 
 -- ---- Numbers
@@ -108,7 +95,7 @@ defined_is texts (names ∷ outer) (scope ∷ scopes) after name id is_new is_se
       | inl there ↦ rw (becomes, new ∙ ap not there, has ∙ there) (are, refl)
       | inr away ↦
           let known = rw number at (known_has texts outer scopes name are.1) in
-          let any : is_seen ≡ have_name outer name = saw ∙ seen_outside (value_in scope id) (lookup scopes id) away ∙ known in
+          let any : is_seen ≡ have_name outer name = grind (arith, saw, away, known) in
           let more : AreScopes texts ((name ∷ names) ∷ outer) ((scope ++ (id, 0) ∷ []) ∷ scopes) = (scope_defined 0 number are.0, are.1) in
           elim (cases_Bool (have_name outer name)) [
             | inl inside ↦ rw (becomes, new ∙ ap not away, has ∙ away, any, inside) (more, refl)

@@ -1,6 +1,6 @@
 -- The report of one text.
 use Rattle.std.proofs.Common.{◌≡◌, ℕ, ◌+◌, ◌^◌, ◌≤◌, List, [], ◌∷◌, length, refl, sym, ap, ◌∙◌, inl, inr, true, false, Bool, Ok, Err, Some, None, arith}
-use Rattle.std.specs.Prelude.{◌*◌, ◌⊎◌, Option, IfNone, Result, OnOk}
+use Rattle.std.specs.Prelude.{◌*◌, ◌⊎◌, Option, IfNone}
 use Rattle.arena_rules.specs.State.{used_bytes}
 use Rattle.arena_rules.proofs.AskingLemmas.{asks_more}
 use Rattle.arena_chunks.specs.Memory.{Memory}
@@ -99,11 +99,6 @@ parsed_light bytes old new light small parsed given = record {
   tree = given;
   light = omega (arith, ap weights (given_is given parsed.0 parsed.2.stand), light bytes parsed.0 parsed.1, small);
 }
-
--- where both are known of a success, the second is
-pub second : (A B : Type 0) (result : Result (Unit {0}) AllocError) → OnOk result (A × B) → OnOk result B
-second A B (Ok x) both = both.1
-second A B (Err e) both = tt
 
 -- A walk from nothing spends what the tree's statements take.
 pub nothing_spends : {old new : View} {t : Tree} {k l : Known} {error : Option AllocError} (trees : Stmts) → IsLight old.memory t

@@ -60,10 +60,7 @@ line_within {m} {ns} {room} {others} i n have = by have.stmts ns i have.stand ha
 
 -- A node represents at most one statement.
 one_stmt : (s t : Stmt) (m : Memory) (n : Node) → StmtAt s m n → StmtAt t m n → s ≡ t
-one_stmt s t m n one two = same (one_stmts (Then s NoStmts) (Then t NoStmts) m (n ∷ []) (one, tt) (two, tt))
-  where
-    same : Then s NoStmts ≡ Then t NoStmts → s ≡ t
-    same is = cc
+one_stmt s t m n one two = cc (one_stmts (Then s NoStmts) (Then t NoStmts) m (n ∷ []) (one, tt) (two, tt))
 
 -- ---- Definitions
 

@@ -52,6 +52,7 @@ fn use_name<C: ChunkSource, F: TakesFindings>(
 }
 
 // The list of the children of an expression that is neither a number nor a name. Only the contract uses the count.
+#[tactic(auto, using(crate::proofs::NameLemmas::expr_kids))]
 fn kids_within<C: ChunkSource>(a: &Allocator<C>, node: Node, _room: u64) -> Vec<Node>
     requires tree { HasExpr a.now.memory node _room }
     requires num { node.kind ≢ Kind.Num }

@@ -21,11 +21,9 @@ pub all_names-returns : goal.all_names-returns
 all_names-returns g t c es sets at knows = kids_found g.F.TakesFindings.taking c.args.list c.kids.i
     (omega (arith, c.kids-test.false, c.kids.auto.i-end, c.len-i-end.ensures)) (c.kids.invariant es sets at knows)
 
-pub names_in-use_name-requires-clause-text : goal.names_in-use_name-requires-clause-text
-names_in-use_name-requires-clause-text g t c = (name_at c.requires.tree c.in-Name.is).0
-
-pub names_in-use_name-requires-clause-utf8 : goal.names_in-use_name-requires-clause-utf8
-names_in-use_name-requires-clause-utf8 g t c = (name_at c.requires.tree c.in-Name.is).1
+pub names_in-use_name-requires : goal.names_in-use_name-requires
+names_in-use_name-requires g t c = let name = name_at c.requires.tree c.in-Name.is in
+    record { held = c.requires.held; text = name.0; utf8 = name.1 }
 
 pub names_in-returns-in-Num : goal.names_in-returns-in-Num
 names_in-returns-in-Num g t c e sets at knows = rw (seen kind.Num c.args.a.now.memory c.args.node c.in-Num.is e at) (g.F.TakesFindings.taking.none _)

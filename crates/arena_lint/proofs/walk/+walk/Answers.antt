@@ -39,18 +39,6 @@ walk-returns-clause-takes g t c ss at = walked_takes g.F.TakesFindings.taking c.
 pub walk_stmt-returns-in_err-walk-in-Block-clause-moves : goal.walk_stmt-returns-in_err-walk-in-Block-clause-moves
 walk_stmt-returns-in_err-walk-in-Block-clause-moves g t c = moves_then c.enter_block.ensures.moves c.walk.ensures.moves
 
-pub walk_stmt-returns-in_ok-walk-in-Block-clause-moves : goal.walk_stmt-returns-in_ok-walk-in-Block-clause-moves
-walk_stmt-returns-in_ok-walk-in-Block-clause-moves g t c =
-    moves_then (moves_then c.enter_block.ensures.moves c.walk.ensures.moves) c.leave_block.ensures.moves
-
-pub walk_stmt-returns-in_ok-walk-in-Block-clause-finds : goal.walk_stmt-returns-in_ok-walk-in-Block-clause-finds
-walk_stmt-returns-in_ok-walk-in-Block-clause-finds g t c s at sets knows =
-    let enters = c.in_ok-list-in-Block.ensures.enters in
-    let body = enters.body s at in
-    block_finds g.F.TakesFindings.taking c.args.a.now.memory c.enter_block.new.a.memory c.walk.new.a.memory c.leave_block.new.a.memory c.args.known.now
-    c.enter_block.new.known c.walk.new.known c.leave_block.new.known c.args.found.now c.walk.new.found s body.0 body.1 enters.knows
-    (λ sets knows. c.in_ok-walk-in-Block.ensures.finds body.0 body.2 sets knows) c.leave_block.ensures.leaves sets knows
-
 pub walk_stmt-returns-in_err-list-in-Block-clause-takes : goal.walk_stmt-returns-in_err-list-in-Block-clause-takes
 walk_stmt-returns-in_err-list-in-Block-clause-takes g t c s at =
     err_takes c.from_residual.result c.from_residual.ensures
@@ -63,11 +51,17 @@ walk_stmt-returns-in_err-walk-in-Block-clause-takes g t c s at =
     err_takes c.from_residual-in_err-walk-in-Block.result c.from_residual-in_err-walk-in-Block.ensures
     (rw body.1 (takes_then c.in_ok-list-in-Block.ensures.takes (c.in_err-walk-in-Block.ensures.takes body.0 body.2)))
 
-pub walk_stmt-returns-in_ok-walk-in-Block-clause-takes : goal.walk_stmt-returns-in_ok-walk-in-Block-clause-takes
-walk_stmt-returns-in_ok-walk-in-Block-clause-takes g t c s at =
-    let body = c.in_ok-list-in-Block.ensures.enters.body s at in
-    rw body.1 (takes_more _ (omega arith) (takes_then
-    (takes_then c.in_ok-list-in-Block.ensures.takes (c.in_ok-walk-in-Block.ensures.takes body.0 body.2)) c.leave_block.ensures.takes))
+pub walk_stmt-returns-in_ok-walk-in-Block : goal.walk_stmt-returns-in_ok-walk-in-Block
+walk_stmt-returns-in_ok-walk-in-Block g t c = let enters = c.in_ok-list-in-Block.ensures.enters in record {
+  moves = moves_then (moves_then c.enter_block.ensures.moves c.walk.ensures.moves) c.leave_block.ensures.moves;
+  finds = λ s at sets knows. let body = enters.body s at in
+      block_finds g.F.TakesFindings.taking c.args.a.now.memory c.enter_block.new.a.memory c.walk.new.a.memory c.leave_block.new.a.memory
+      c.args.known.now c.enter_block.new.known c.walk.new.known c.leave_block.new.known c.args.found.now c.walk.new.found s body.0 body.1 enters.knows
+      (λ sets knows. c.in_ok-walk-in-Block.ensures.finds body.0 body.2 sets knows) c.leave_block.ensures.leaves sets knows;
+  takes = λ s at. let body = enters.body s at in
+      rw body.1 (takes_more _ (omega arith) (takes_then
+      (takes_then c.in_ok-list-in-Block.ensures.takes (c.in_ok-walk-in-Block.ensures.takes body.0 body.2)) c.leave_block.ensures.takes));
+}
 
 pub walk_stmt-returns-in_default : goal.walk_stmt-returns-in_default
 walk_stmt-returns-in_default g t c = record {

@@ -25,12 +25,10 @@ pub returns-in_err-is_new-clause-takes : goal.returns-in_err-is_new-clause-takes
 returns-in_err-is_new-clause-takes g c = err_takes c.from_residual-in_err-is_new.result c.from_residual-in_err-is_new.ensures
     (define_takes c.requires.known c.in_ok-id.ensures c.in_err-is_new.ensures)
 
-pub returns-clause-moves : goal.returns-clause-moves
-returns-clause-moves g c = define_moves c.requires.known c.in_ok-id.ensures c.define.ensures
-
-pub returns-clause-means : goal.returns-clause-means
-returns-clause-means g c sets knows = rw c.finding.ensures (define_means c.requires.known c.in_ok-id.ensures c.in_ok-is_new.ensures
-    (c.is_some-is_seen.ensures ∙ ap is_some c.lookup.ensures) sets knows)
-
-pub returns-clause-takes : goal.returns-clause-takes
-returns-clause-takes g c = define_takes c.requires.known c.in_ok-id.ensures c.in_ok-is_new.ensures
+pub returns : goal.returns
+returns g c = record {
+  moves = define_moves c.requires.known c.in_ok-id.ensures c.define.ensures;
+  means = λ sets knows. rw c.finding.ensures (define_means c.requires.known c.in_ok-id.ensures c.in_ok-is_new.ensures
+      (c.is_some-is_seen.ensures ∙ ap is_some c.lookup.ensures) sets knows);
+  takes = define_takes c.requires.known c.in_ok-id.ensures c.in_ok-is_new.ensures;
+}

@@ -5,14 +5,9 @@ use Rattle.arena_lint.proofs.SpendingLemmas.{err_takes, takes_exhausted}
 use Rattle.arena_lint.proofs.StatementLemmas.{let_name, let_finds}
 use Rattle.arena_lint.proofs.walk.let_line.Goals as goal
 
-pub define-requires-clause-held : goal.define-requires-clause-held
-define-requires-clause-held g c = (let_name c.requires.tree c.requires.kind).0
-
-pub define-requires-clause-utf8 : goal.define-requires-clause-utf8
-define-requires-clause-utf8 g c = (let_name c.requires.tree c.requires.kind).1
-
-pub define-requires-clause-short : goal.define-requires-clause-short
-define-requires-clause-short g c = (let_name c.requires.tree c.requires.kind).2
+pub define-requires : goal.define-requires
+define-requires g c = let name = let_name c.requires.tree c.requires.kind in
+    record { known = c.requires.known; held = name.0; utf8 = name.1; short = name.2 }
 
 pub returns-clause-finds : goal.returns-clause-finds
 returns-clause-finds g c s at =
