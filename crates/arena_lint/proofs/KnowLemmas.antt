@@ -1,5 +1,5 @@
 -- Sets of names and scopes, as texts are given numbers and names are defined.
-use Rattle.std.proofs.Common.{◌≡◌, ℕ, ◌<◌, List, [], ◌∷◌, ◌++◌, length, length-append, refl, sym, ap, ◌∙◌, inl, inr, Some, None, Option, true, false, Bool, ◌||◌, is_some, not, arith}
+use Rattle.std.proofs.Common.{◌≡◌, ℕ, ◌<◌, List, [], ◌∷◌, ◌++◌, length, length-append, refl, sym, ap, ◌∙◌, inl, inr, Some, None, Option, true, false, Bool, is_some, not, arith}
 use Rattle.std.specs.Prelude.{if◌then◌else◌, ◌==◌, slice_get, bytes_eq}
 use Rattle.std.specs.List.{AllZip}
 use Rattle.std.proofs.lemmas.Bool.{cases_Bool, cond-false, eqb-true, eq-eqb, ne_eqb}
@@ -8,7 +8,7 @@ use Rattle.std.proofs.lemmas.Option.{same_Some, slice_get_within}
 use Rattle.std.proofs.lemmas.Slice.Eq.{bytes_eq-Decides}
 use Rattle.arena_symbols.specs.Interner.{number_of, with_text}
 use Rattle.arena_symbols.specs.Named.{meant}
-use Rattle.arena_symbols.specs.Scoping.{seen, value_in, lookup, is_in_last, with_pair}
+use Rattle.arena_symbols.specs.Scoping.{value_in, lookup, is_in_last, with_pair}
 use Rattle.arena_symbols.proofs.Layers.{number_push, number_there, value_push}
 use Rattle.tree_rules.specs.Report.{NameSet, has_name, have_name, defined}
 use Rattle.tree_rules.specs.declared.finding.FindKind.TheVariants.{Redefined, Shadowed}
