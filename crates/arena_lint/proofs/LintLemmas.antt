@@ -29,7 +29,6 @@ use Rattle.arena_tree.specs.Layouts.{AskedFor}
 use Rattle.arena_tree.specs.Parsing.{ParsesInOnePass, TakesAtMost, IsProgramText, parse_bytes}
 use Rattle.arena_tree.specs.StmtsAt.{stmts_blocks}
 use Rattle.arena_tree.specs.TreesAt.{node_item}
-use Rattle.arena_tree.specs.Spending.{IsStarvedBehind}
 use Rattle.arena_tree.specs.declared.tree.Tree.{Tree}
 use Rattle.arena_tree.specs.declared.tree.TreeErr.{TreeErr}
 use Rattle.arena_tree.specs.declared.tree.TreeErr.TheVariants as tree
@@ -124,14 +123,7 @@ parse_spends {few = few} {all = all} {old = old} {new = new} less takes =
     (omega (arith, less)) takes.asks in
     grind (arith, takes, less, asks)
 
-starved : (old new : View) → old.memory.state.is_growing ≡ true → IsStarvedBehind old new → IsStarved (2 ^ 62) old new
-starved old new growing since = record { growing = growing; cause = grind arith }
-
 -- ---- Reports
-
-never : {A B C : Type 0} → (A → ⊥) → (B → ⊥) → A ⊎ B → C
-never one other (inl is) = absurd (one is)
-never one other (inr is) = absurd (other is)
 
 module _ {bytes : List ℕ} {old new : View} {error : Option AllocError} (unused : used old ≡ 0)
     (spends : Spends (LintsAsk bytes) (lint_bytes (length bytes)) 0 0 old new error) where
@@ -160,8 +152,8 @@ module _ {bytes : List ℕ} {old new : View} {error : Option AllocError} (unused
   unparsed (tree.AllocErr k) parsed = lints_unplaced new.memory.state.is_growing refl parsed.0
       (denied_more (λ size align asks. inl asks) parsed.1.denied) parsed.1.starved
       (λ still. let short = parsed.1.full still in record { still = still; short = omega (arith, short.short) })
-  unparsed tree.OutOfMemory parsed = lints OutOfMemory tt parsed.0 (never (λ no. cc) (λ no. cc)) (λ no. absurd (cc)) (λ no. absurd (cc))
-  unparsed why parsed = lints _ parsed.0 tt (never (λ no. cc) (λ no. cc)) (λ no. absurd (cc)) (λ no. absurd (cc))
+  unparsed tree.OutOfMemory parsed = lints OutOfMemory tt parsed.0 (λ no. grind (arith, no)) (λ no. absurd (cc)) (λ no. absurd (cc))
+  unparsed why parsed = lints _ parsed.0 tt (λ no. grind (arith, no)) (λ no. absurd (cc)) (λ no. absurd (cc))
 
 -- What a walk over a tree spends.
 abbrev Walks : View → View → Tree → Option AllocError → Type 0
@@ -184,18 +176,18 @@ module _ {bytes : List ℕ} {old mid new : View} (t : Tree) (light : AreLight) (
   checked taking gained walks = record {
     findings = findings_of parsed.0;
     gained = gained parsed.0 parsed.2.stand;
-    lints = lints unused (all_spends walks) (Checked (findings_of parsed.0)) (parsed.0, parsed.1, refl) tt (never (λ no. cc) (λ no. cc))
+    lints = lints unused (all_spends walks) (Checked (findings_of parsed.0)) (parsed.0, parsed.1, refl) tt (λ no. grind (arith, no))
         (λ no. absurd (cc)) (λ no. absurd (cc));
   }
 
   pub unplaced : (k : ℕ) → Walks mid new t (Some (alloc.AllocErr k)) → Lints bytes old new (no_place new.memory.state.is_growing)
   unplaced k walks = let spent = all_spends walks in
       lints_unplaced unused spent new.memory.state.is_growing refl (parsed.0, parsed.1) (spent.denied k refl)
-      (λ growing. starved old new growing (spent.starved growing k refl))
+      (λ growing. record { growing = growing; cause = grind (arith, spent.starved growing k refl) })
       (λ still. let short = spent.full still k refl in record { still = still; short = omega (arith, short.short) })
 
   pub exhausted : Walks mid new t (Some alloc.OutOfMemory) → Lints bytes old new OutOfMemory
-  exhausted walks = lints unused (all_spends walks) OutOfMemory tt (parsed.0, parsed.1) (never (λ no. cc) (λ no. cc))
+  exhausted walks = lints unused (all_spends walks) OutOfMemory tt (parsed.0, parsed.1) (λ no. grind (arith, no))
       (λ no. absurd (cc)) (λ no. absurd (cc))
 
   pub fits : Walks mid new t (Some alloc.CapacityOverflow) → ⊥
