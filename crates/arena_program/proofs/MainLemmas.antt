@@ -21,28 +21,14 @@ abbrev letter : List (List ℕ) → ℕ
 letter [] = 0
 letter (word ∷ words) = get_or word 0 0
 
-abbrev second : List (List ℕ) → List ℕ
-second [] = []
-second (word ∷ []) = []
-second (word ∷ next ∷ words) = next
-
-abbrev third : List (List ℕ) → List ℕ
-third [] = []
-third (word ∷ words) = second words
-
 same_lender : (a b : Lender) → lender_words a ≡ lender_words b → a ≡ b
 same_lender Standard Standard e = refl
-same_lender Standard (Keeping limit) e = let first : ◌≡◌ {A = ℕ} 0 107 = ap letter e in absurd (omega arith)
-same_lender Standard (Fixed bytes arenas) e = let first : ◌≡◌ {A = ℕ} 0 102 = ap letter e in absurd (omega arith)
-same_lender (Keeping limit) Standard e = let first : ◌≡◌ {A = ℕ} 107 0 = ap letter e in absurd (omega arith)
-same_lender (Keeping limit) (Keeping other) e = ap Keeping (number_same limit other (ap second e))
-same_lender (Keeping limit) (Fixed bytes arenas) e = let first : ◌≡◌ {A = ℕ} 107 102 = ap letter e in absurd (omega arith)
-same_lender (Fixed bytes arenas) Standard e = let first : ◌≡◌ {A = ℕ} 102 0 = ap letter e in absurd (omega arith)
-same_lender (Fixed bytes arenas) (Keeping limit) e = let first : ◌≡◌ {A = ℕ} 102 107 = ap letter e in absurd (omega arith)
+same_lender (Keeping limit) (Keeping other) e = ap Keeping (number_same limit other cc)
 same_lender (Fixed bytes arenas) (Fixed others more) e =
-    let same = number_same bytes others (ap second e) in
-    let as_many = number_same arenas more (ap third e) in
+    let same = number_same bytes others cc in
+    let as_many = number_same arenas more cc in
     cc
+same_lender a b e = let first : letter (lender_words a) ≡ letter (lender_words b) = ap letter e in absurd (omega (arith, first))
 
 one_lender : (words : List (List ℕ)) (a b : Task) → AsksScripts words a → AsksScripts words b → a.lender ≡ b.lender
 one_lender words a b p q = same_lender a.lender b.lender (ap (drop 2) (sym p.all ∙ q.all))

@@ -25,23 +25,17 @@ use Rattle.arena_program.specs.declared.printout.Printout.{Printout}
 
 -- ---- The texts of all
 
-scripts_from : {C : Type 0} (i : ℕ) (all : List (Served Outcome C)) → text_from (outcome_text script_text) i all
+pub scripts_from : {C : Type 0} (i : ℕ) (all : List (Served Outcome C)) → text_from (outcome_text script_text) i all
     ≡ flat_map with_feed (lines_from i (map told (map (λ served. served.outcome) all)))
 scripts_from i [] = refl
 scripts_from i (served ∷ all) = ap (λ xs. script_text i served.outcome ++ xs) (scripts_from (i + 1) all)
     ∙ sym (flat_map-append with_feed (outcome_lines i (told served.outcome)) (lines_from (i + 1) (map told (map (λ s. s.outcome) all))))
 
-pub scripts_whole : {C : Type 0} (all : List (Served Outcome C)) → text_from (outcome_text script_text) 0 all ≡ text_of_served all
-scripts_whole all = scripts_from 0 all
-
-reports_from : {C : Type 0} (i : ℕ) (all : List (Linted C))
+pub reports_from : {C : Type 0} (i : ℕ) (all : List (Linted C))
     → text_from linted_text i all ≡ flat_map with_feed (reports.lines_from i (map (λ linted. linted.report) all))
 reports_from i [] = refl
 reports_from i (linted ∷ all) = ap (λ xs. linted_text i linted ++ xs) (reports_from (i + 1) all)
     ∙ sym (reports_more i linted.report (map (λ l. l.report) all))
-
-pub reports_whole : {C : Type 0} (all : List (Linted C)) → text_from linted_text 0 all ≡ text_of_linted all
-reports_whole all = reports_from 0 all
 
 -- ---- What is promised of scripts and of sources
 

@@ -15,7 +15,7 @@ use script_rules::laws;
 
 /// Where nothing fails, the bytes of an input that reports them determine the status of a run of scripts, unless memory
 /// runs out.
-#[tactic(auto, using(arena_calls::proofs::StatusLemmas::over))]
+#[tactic(auto, using(arena_calls::proofs::StatusLemmas::over, arena_calls::proofs::StatusLemmas::within))]
 pub fn one_script_status<C: ChunkSource, J: Job<C>>()
     ensures within { (lender : Lender) (status : Status) (old new : Outside) (before after : List (ℕ × Starved C)) (bytes : List ℕ)
         (read : Result (List (List Command)) ℕ)

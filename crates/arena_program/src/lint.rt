@@ -81,6 +81,7 @@ fn sources_in<'a>(alloc: Global, bytes: &'a [u8]) -> Result<Vec<Source<'a>>, Out
 
 /// Reads all of the input as sources, lints each, and writes their reports. `starved` gains what shows that sources
 /// were starved, once memory can no longer run out.
+#[tactic(auto, using(crate::proofs::RunLemmas::whole_front))]
 pub fn run_sources<I: Input, O: Output, R: Threads + Wait + Sync, K: ChunkMaker + Drop + Send>(
     rt: &R,
     alloc: Global,

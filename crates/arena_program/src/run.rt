@@ -19,6 +19,7 @@ use std::thread::Threads;
 
 /// Reads all of the input as scripts, runs each as the task says, and writes their outcomes. `starved` gains what shows
 /// that scripts were starved, once memory can no longer run out.
+#[tactic(auto, using(crate::proofs::RunLemmas::whole_front))]
 pub fn run_lines_of_scripts<
     I: Input,
     O: Output,

@@ -4,18 +4,9 @@ use Rattle.lint_reports.specs.Sources.{sources}
 use Rattle.arena_lint.specs.All.{IsLintedAlone}
 use Rattle.arena_program.specs.PoolEnds.{SourcesOf, text_of_linted}
 use Rattle.arena_program.specs.Told.{joined}
-use Rattle.arena_program.proofs.RunLemmas.{whole_front, pieces_printed}
-use Rattle.arena_program.proofs.ToldLemmas.{reports_whole}
+use Rattle.arena_program.proofs.RunLemmas.{pieces_printed}
+use Rattle.arena_program.proofs.ToldLemmas.{reports_from}
 use Rattle.arena_program.proofs.lint.run_sources.Goals as goal
-
-pub returns-in_default-into_texts : goal.returns-in_default-into_texts
-returns-in_default-into_texts g c = λ arena. (
-  record { reads = c.in-Ok.ensures.faults; writes = refl },
-  (
-    record { untouched = record { arena = refl; written = refl }; gained = c.in_default-into_texts.ensures.same },
-    whole_front _ _ _ c.in-Ok.ensures.all (omega (arith, c.in-Ok.ensures.kept)),
-  ),
-)
 
 pub returns : goal.returns
 returns g c = λ arena. pieces_printed SourcesOf (IsLintedAlone _ Standard)
@@ -29,5 +20,5 @@ returns g c = λ arena. pieces_printed SourcesOf (IsLintedAlone _ Standard)
     })
     c.in-Ok.ensures.faults
     (ap joined (c.as_slice-2.ensures.value ∙ ap (λ v. v.items) c.in-Ok-into_texts.ensures.texts) ∙ c.in-Ok-lint_over_pool.ensures.texts
-    ∙ reports_whole c.in-Ok-lint_over_pool.ensures.all)
+    ∙ reports_from 0 c.in-Ok-lint_over_pool.ensures.all)
     c.print_all.ensures

@@ -3,18 +3,9 @@ use Rattle.script_rules.specs.Grammar.{ScriptsOf}
 use Rattle.script_workers.specs.Serving.{IsServedAlone}
 use Rattle.arena_program.specs.PoolEnds.{kind_of, text_of_served}
 use Rattle.arena_program.specs.Told.{joined}
-use Rattle.arena_program.proofs.RunLemmas.{whole_front, pieces_printed}
-use Rattle.arena_program.proofs.ToldLemmas.{scripts_whole}
+use Rattle.arena_program.proofs.RunLemmas.{pieces_printed}
+use Rattle.arena_program.proofs.ToldLemmas.{scripts_from}
 use Rattle.arena_program.proofs.run.run_lines_of_scripts.Goals as goal
-
-pub returns-in_default-into_texts : goal.returns-in_default-into_texts
-returns-in_default-into_texts g c = λ arena. (
-  record { reads = c.in-Ok.ensures.faults; writes = refl },
-  (
-    record { untouched = record { arena = refl; written = refl }; gained = c.in_default-into_texts.ensures.same },
-    whole_front _ _ _ c.in-Ok.ensures.all (omega (arith, c.in-Ok.ensures.kept)),
-  ),
-)
 
 pub returns : goal.returns
 returns g c = λ arena. pieces_printed ScriptsOf (IsServedAlone _ (kind_of c.args.task.lender) _)
@@ -28,5 +19,5 @@ returns g c = λ arena. pieces_printed ScriptsOf (IsServedAlone _ (kind_of c.arg
     })
     c.in-Ok.ensures.faults
     (ap joined (c.as_slice-2.ensures.value ∙ ap (λ v. v.items) c.in-Ok-into_texts.ensures.texts) ∙ c.in-Ok-run_task.ensures.texts
-    ∙ scripts_whole c.in-Ok-run_task.ensures.all)
+    ∙ scripts_from 0 c.in-Ok-run_task.ensures.all)
     c.print_all.ensures
