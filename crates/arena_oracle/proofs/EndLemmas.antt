@@ -1,5 +1,5 @@
 -- How runs over a new arena end.
-use Rattle.std.proofs.Common.{◌≡◌, ℕ, ◌+◌, ◌<◌, ◌≤◌, false, List, [], length, take, drop, Some, Result, Ok, Err, refl, sym, subst, arith, inl, inr, take-append-drop, append-nil, length-take-le}
+use Rattle.std.proofs.Common.{◌≡◌, ℕ, ◌+◌, ◌<◌, ◌≤◌, false, List, [], length, take, drop, Option, Some, Result, Ok, Err, refl, sym, subst, arith, inl, inr, take-append-drop, append-nil, length-take-le}
 use Rattle.std.specs.Prelude.{IfOk, IfErr}
 use Rattle.call_rules.specs.Generator.{gen_calls}
 use Rattle.call_rules.specs.Grammar.{CallsOf}
@@ -10,16 +10,16 @@ use Rattle.arena_store.specs.Memory.{Memory}
 use Rattle.arena_store.specs.Source.{Source, View, view}
 use Rattle.arena_store.specs.declared.block.Block.{Block}
 use Rattle.arena_chunks.specs.Runs.{Runs}
-use Rattle.arena_calls.specs.Ends.{Outside, IsWritten, EndsWith, RunsInput, RunsTo, outside, reply_lines, summary_lines}
+use Rattle.arena_calls.specs.Ends.{Outside, RunsInput, RunsTo, Ends, outside, reply_lines, summary_lines}
 use Rattle.arena_calls.specs.ReadAll.{limit}
 use Rattle.arena_calls.specs.declared.status.Status.{Status}
 use Rattle.arena_calls.specs.declared.status.Status.TheVariants as status
-use Rattle.arena_calls.proofs.RunLemmas.{unwritten}
-use Rattle.arena_drawing.specs.Ends.{RunsToPicture, picture_of}
+use Rattle.arena_calls.proofs.RunLemmas.{unwritten, read_of}
+use Rattle.arena_drawing.specs.Ends.{Draws, RunsToPicture, picture_of}
 use Rattle.arena_drawing.proofs.EndLemmas.{first_all, placed}
 use Rattle.arena_oracle.specs.Limits.{KeepsThose, limited}
 use Rattle.arena_oracle.specs.Sources.{StopsEarly}
-use Rattle.arena_oracle.specs.Answers.{Ending, Within, CallsWithin, DrawsWithin, GenWithin, Yields, YieldsWithin, YieldsNothing, new_arena, is_done}
+use Rattle.arena_oracle.specs.Answers.{Ending, Within, CallsWithin, DrawsWithin, GenWithin, YieldsWithin, YieldsNothing, new_arena, is_done}
 
 -- ---- Nothing is written
 
@@ -81,50 +81,48 @@ stopped lines entry exit calls read same small are stops = elim stops [
 -- or after it
 pub stopped_after : (lines : List ℕ) (entry exit : View) (replies : List Reply) (held : List (ℕ × Block))
     → RunsInput (Some lines) (Some []) entry exit replies held → YieldsNothing status.OutOfMemory lines entry exit
-stopped_after lines entry exit replies held run = (
-  Some [],
-  (
-    record { reads = refl; writes = refl },
-    inr (
-      run.calls,
-      record { bytes = run.bytes; whole = record { told = run.told; small = run.small }; lines = run.lines },
-      record { done = length run.calls; runs = first_all entry exit run.calls replies held run.runs; written = refl },
-    ),
-  ),
-)
+stopped_after lines entry exit replies held run =
+    stopped lines entry exit run.calls run.calls refl (rw run.told.0 at run.small) (rw run.told.0 at run.lines)
+    (inr (length run.calls, first_all entry exit run.calls replies held run.runs))
 
 -- a run that isn't done says no more
 undone : (Is : Ending) (Kept : (old new : Outside) → Is status.Done old new → Type 0) (end : Status) (old new : Outside) → is_done end ≡ false
     → Is end old new → Within Is Kept end old new
 undone Is Kept status.Done old new other ends = cc
-undone Is Kept status.Usage old new other ends = ends
-undone Is Kept (status.BadLine n) old new other ends = ends
-undone Is Kept status.OutOfMemory old new other ends = ends
-undone Is Kept status.ReadFault old new other ends = ends
-undone Is Kept status.WriteFault old new other ends = ends
-undone Is Kept status.InputTooLong old new other ends = ends
+undone Is Kept end old new other ends = ends
 
 -- over a new arena
-module _ (lines : List ℕ) (before after : Source) (entry exit : Memory) (end : Status) where
-  nothing : (Ran : Outside → Outside → List Call → IsWritten → Type 0)
-      (Kept : (old new : Outside) → EndsWith Ran status.Done old new → Type 0) → entry ≡ (new_arena before).memory → is_done end ≡ false
-      → YieldsNothing end lines (view entry before) (view exit after) → Yields (Within (EndsWith Ran) Kept) lines before after end []
-  nothing Ran Kept new other none =
-      let old : Outside = outside (Some lines) 0 (Some []) 0 (new_arena before) in
-      let behind : Outside = outside none.0 0 (Some []) 0 (view exit after) in
-      record {
-        left = none.0;
-        memory = exit;
-        ends = undone (EndsWith Ran) Kept end old behind other (unwritten Ran old behind end (rw new at none.1));
-      }
+pub over_new : (Is : ℕ → List ℕ → Ending) (lines : List ℕ) (before after : Source) (entry exit : Memory) (end : Status)
+    (left : Option (List ℕ)) (text : List ℕ) → entry ≡ (new_arena before).memory
+    → ((budget : ℕ) (refuse : List ℕ) → before ≡ limited budget refuse → Is budget refuse end
+    (outside (Some lines) 0 (Some []) 0 (view entry before)) (outside left 0 (Some text) 0 (view exit after)))
+    → YieldsWithin Is lines before after end text
+over_new Is lines before after entry exit end left text new ends budget refuse limits = record {
+  left = left;
+  memory = exit;
+  ends = subst (λ (m : Memory). Is budget refuse end (outside (Some lines) 0 (Some []) 0 (view m before))
+      (outside left 0 (Some text) 0 (view exit after))) new (ends budget refuse limits);
+}
 
-  pub no_text : entry ≡ (new_arena before).memory → is_done end ≡ false → YieldsNothing end lines (view entry before) (view exit after)
+module _ (lines : List ℕ) (before after : Source) (entry exit : Memory) (new : entry ≡ (new_arena before).memory) where
+  pub no_text : (end : Status) → is_done end ≡ false → YieldsNothing end lines (view entry before) (view exit after)
       → YieldsWithin CallsWithin lines before after end []
-  no_text new other none budget refuse is = nothing (λ old new calls. RunsTo old new calls reply_lines) _ new other none
+  no_text end other none = over_new CallsWithin lines before after entry exit end none.0 [] new
+      (λ budget refuse is. undone Ends _ end _ _ other (unwritten (λ old new calls. RunsTo old new calls reply_lines) _ _ end none.1))
 
-  pub no_picture : entry ≡ (new_arena before).memory → is_done end ≡ false → YieldsNothing end lines (view entry before) (view exit after)
-      → YieldsWithin DrawsWithin lines before after end []
-  no_picture new other none budget refuse is = nothing RunsToPicture _ new other none
+  pub picture_or : {T : Type 0} (items : T → List ℕ) (result : Result T Status) → ((budget : ℕ) (refuse : List ℕ)
+      → before ≡ limited budget refuse → IfOk result (λ text. DrawsWithin budget refuse status.Done
+      (outside (Some lines) 0 (Some []) 0 (view entry before)) (outside (Some []) 0 (Some (items text)) 0 (view exit after))))
+      → IfOk result (λ text. YieldsWithin DrawsWithin lines before after status.Done (items text))
+  picture_or items (Ok text) drawn = over_new DrawsWithin lines before after entry exit status.Done (Some []) (items text) new drawn
+  picture_or items (Err end) drawn = tt
+
+  pub no_picture : {T : Type 0} (result : Result T Status)
+      → IfErr result (λ end. YieldsNothing end lines (view entry before) (view exit after))
+      → IfErr result (λ end. is_done end ≡ false) → IfErr result (λ end. YieldsWithin DrawsWithin lines before after end [])
+  no_picture (Ok text) none other = tt
+  no_picture (Err end) none other = over_new DrawsWithin lines before after entry exit end none.0 [] new
+      (λ budget refuse is. undone Draws _ end _ _ other (unwritten RunsToPicture _ _ end none.1))
 
 -- ---- The lines were run
 
@@ -151,80 +149,42 @@ ran_lines lines entry exit calls read replies held Taken same small are runs kee
 -- a run that is done
 module _ (lines : List ℕ) (entry exit : View) (replies : List Reply) (held : List (ℕ × Block)) (text : List ℕ)
     (run : RunsInput (Some lines) (Some []) entry exit replies held) (keeps : KeepsThose entry.source entry.memory.state run.calls replies)
-    (budget : ℕ) (refuse : List ℕ) (limits : entry.source ≡ limited budget refuse) where
-  -- of which this is the text
-  done : text ≡ text_of replies
-      → CallsWithin budget refuse status.Done (outside (Some lines) 0 (Some []) 0 entry) (outside (Some []) 0 (Some text) 0 exit)
-  done same = (
-    (
-      record { reads = refl; writes = refl },
+  where
+    -- of which this is the text
+    pub done : text ≡ text_of replies → (budget : ℕ) (refuse : List ℕ) → entry.source ≡ limited budget refuse
+        → CallsWithin budget refuse status.Done (outside (Some lines) 0 (Some []) 0 entry) (outside (Some []) 0 (Some text) 0 exit)
+    done same budget refuse limits = (
       (
-        run.calls,
-        record { bytes = run.bytes; whole = record { told = run.told; small = run.small }; lines = run.lines },
-        record { replies = replies; blocks = held; runs = run.runs; written = rw (← same) refl },
+        record { reads = refl; writes = refl },
+        (
+          run.calls,
+          read_of _ _ entry exit replies held run,
+          record { replies = replies; blocks = held; runs = run.runs; written = rw (← same) refl },
+        ),
       ),
-    ),
-    keeps budget refuse limits,
-  )
+      keeps budget refuse limits,
+    )
 
-  -- or the picture
-  pub pictured : text ≡ picture_of exit.memory.state held
-      → DrawsWithin budget refuse status.Done (outside (Some lines) 0 (Some []) 0 entry) (outside (Some []) 0 (Some text) 0 exit)
-  pictured same = (
-    (
-      record { reads = refl; writes = refl },
+    -- or the picture
+    pub pictured : text ≡ picture_of exit.memory.state held → (budget : ℕ) (refuse : List ℕ) → entry.source ≡ limited budget refuse
+        → DrawsWithin budget refuse status.Done (outside (Some lines) 0 (Some []) 0 entry) (outside (Some []) 0 (Some text) 0 exit)
+    pictured same budget refuse limits = (
       (
-        run.calls,
-        record { bytes = run.bytes; whole = record { told = run.told; small = run.small }; lines = run.lines },
-        record {
-          replies = replies;
-          held = held;
-          runs = run.runs;
-          written = rw (← same) refl;
-          placed = placed entry exit run.calls replies held run.runs;
-        },
+        record { reads = refl; writes = refl },
+        (
+          run.calls,
+          read_of _ _ entry exit replies held run,
+          record {
+            replies = replies;
+            held = held;
+            runs = run.runs;
+            written = rw (← same) refl;
+            placed = placed entry exit run.calls replies held run.runs;
+          },
+        ),
       ),
-    ),
-    keeps budget refuse limits,
-  )
-
--- over a new arena
-pub text_done : (lines : List ℕ) (before after : Source) (entry exit : Memory) (replies : List Reply) (held : List (ℕ × Block)) (text : List ℕ)
-    → entry ≡ (new_arena before).memory → (run : RunsInput (Some lines) (Some []) (view entry before) (view exit after) replies held)
-    → KeepsThose before entry.state run.calls replies → text ≡ text_of replies
-    → YieldsWithin CallsWithin lines before after status.Done text
-text_done lines before after entry exit replies held text new run keeps same budget refuse limits = record {
-  left = Some [];
-  memory = exit;
-  ends = subst (λ (m : Memory). CallsWithin budget refuse status.Done (outside (Some lines) 0 (Some []) 0 (view m before))
-      (outside (Some []) 0 (Some text) 0 (view exit after))) new
-      (done lines (view entry before) (view exit after) replies held text run keeps budget refuse limits same);
-}
-
-pub picture_done : (lines : List ℕ) (before after : Source) (entry exit : Memory) (text : List ℕ) → entry ≡ (new_arena before).memory
-    → ((budget : ℕ) (refuse : List ℕ) → before ≡ limited budget refuse
-    → DrawsWithin budget refuse status.Done (outside (Some lines) 0 (Some []) 0 (view entry before)) (outside (Some []) 0 (Some text) 0 (view exit after)))
-    → YieldsWithin DrawsWithin lines before after status.Done text
-picture_done lines before after entry exit text new drawn budget refuse limits = record {
-  left = Some [];
-  memory = exit;
-  ends = subst (λ (m : Memory). DrawsWithin budget refuse status.Done (outside (Some lines) 0 (Some []) 0 (view m before))
-      (outside (Some []) 0 (Some text) 0 (view exit after))) new (drawn budget refuse limits);
-}
-
--- a picture, or why there is none
-module _ {T : Type 0} (items : T → List ℕ) (lines : List ℕ) (before after : Source) (entry exit : Memory) (new : entry ≡ (new_arena before).memory) where
-  pub picture_or : (result : Result T Status) → ((budget : ℕ) (refuse : List ℕ) → before ≡ limited budget refuse
-      → IfOk result (λ text. DrawsWithin budget refuse status.Done (outside (Some lines) 0 (Some []) 0 (view entry before))
-      (outside (Some []) 0 (Some (items text)) 0 (view exit after))))
-      → IfOk result (λ text. YieldsWithin DrawsWithin lines before after status.Done (items text))
-  picture_or (Ok text) drawn = picture_done lines before after entry exit (items text) new drawn
-  picture_or (Err end) drawn = tt
-
-  pub or_no_picture : (result : Result T Status) → IfErr result (λ end. YieldsNothing end lines (view entry before) (view exit after))
-      → IfErr result (λ end. is_done end ≡ false) → IfErr result (λ end. YieldsWithin DrawsWithin lines before after end [])
-  or_no_picture (Ok text) none other = tt
-  or_no_picture (Err end) none other = no_picture lines before after entry exit end new other none
+      keeps budget refuse limits,
+    )
 
 -- ---- Calls from a number, over a new arena
 
@@ -233,40 +193,25 @@ module _ (start count : ℕ) (before after : Source) (entry exit : Memory) (new 
       → Runs (view entry before) (view exit after) (gen_calls start count) replies held
       → KeepsThose before entry.state (gen_calls start count) replies → text ≡ summary_lines replies exit.state
       → YieldsWithin (GenWithin start count) [] before after status.Done text
-  generated replies held text runs keeps same budget refuse limits =
-      let run = rw new at runs in
-      let kept = keeps budget refuse limits in
-      record {
-        left = Some [];
-        memory = exit;
-        ends = (
-          (
-            record { reads = refl; writes = refl },
-            refl,
-            record { replies = replies; blocks = held; runs = run; written = rw (← same) refl },
-          ),
-          rw new at kept,
-        );
-      }
+  generated replies held text runs keeps same = over_new (GenWithin start count) [] before after entry exit status.Done (Some []) text new
+      (λ budget refuse limits. (
+        (
+          record { reads = refl; writes = refl },
+          refl,
+          record { replies = replies; blocks = held; runs = runs; written = rw (← same) refl },
+        ),
+        keeps budget refuse limits,
+      ))
 
   -- memory ran out
   pub not_generated : StopsEarly (view entry before) (view exit after) (gen_calls start count)
       → YieldsWithin (GenWithin start count) [] before after status.OutOfMemory []
-  not_generated stops budget refuse limits =
-      let early = rw new at stops in
-      record {
-        left = Some [];
-        memory = exit;
-        ends = (
-          record { reads = refl; writes = refl },
-          refl,
-          elim early [
-            | inl same ↦ inl (record { arena = same; written = refl })
-            | inr first ↦ inr (record { done = first.0; runs = first.1; written = refl })
-          ],
-        );
-      }
-
-  -- or it ran out for the summary
-  pub not_begun : exit ≡ entry → after ≡ before → YieldsWithin (GenWithin start count) [] before after status.OutOfMemory []
-  not_begun same source = not_generated (inl (rw (same, source) refl))
+  not_generated stops = over_new (GenWithin start count) [] before after entry exit status.OutOfMemory (Some []) [] new
+      (λ budget refuse limits. (
+        record { reads = refl; writes = refl },
+        refl,
+        elim stops [
+          | inl same ↦ inl (record { arena = same; written = refl })
+          | inr first ↦ inr (record { done = first.0; runs = first.1; written = refl })
+        ],
+      ))

@@ -1,5 +1,5 @@
 -- One more request, and what the limits make of it.
-use Rattle.std.proofs.Common.{◌≡◌, ℕ, ◌+◌, ◌-◌, ◌^◌, ◌<◌, ◌≤◌, Bool, true, false, refl, sym, ◌∙◌, arith, IsTrue, List, [], ◌∷◌, ◌++◌, length, eqb-true, eq-eqb}
+use Rattle.std.proofs.Common.{◌≡◌, ℕ, ◌+◌, ◌-◌, ◌^◌, ◌<◌, ◌≤◌, Bool, true, false, refl, sym, arith, IsTrue, List, [], ◌∷◌, ◌++◌, length, eqb-true, eq-eqb}
 use Rattle.std.specs.Prelude.{◌||◌, ◌==◌, if◌then◌else◌}
 use Rattle.arena_rules.specs.Causes.{counted}
 use Rattle.arena_oracle.specs.Limits.{is_allowed, left_behind, one_refusal, left_of, refusals_of}
@@ -32,38 +32,6 @@ refusals_most refuse n left (x ∷ rest) =
     let more = refusals_most refuse (n + 1) (left_behind refuse n left x.0) rest in
     omega (arith, one, more)
 
-module _ (refuse : List ℕ) (budget left refused size align : ℕ) (requests : List (ℕ × ℕ)) where
-  -- one that the limits allow, and one that they refuse
-  pub left_allowed : left ≡ left_of refuse 1 budget requests → is_allowed refuse (length requests + 1) left size ≡ true
-      → left - size ≡ left_of refuse 1 budget (requests ++ (size, align) ∷ [])
-  left_allowed is allowed =
-      let here = rw is at allowed in
-      sym (left_at refuse 1 budget (length requests + 1) requests (size, align) (omega arith) ∙ rw (here, is) refl)
-
-  pub left_refused : left ≡ left_of refuse 1 budget requests → is_allowed refuse (length requests + 1) left size ≡ false
-      → left ≡ left_of refuse 1 budget (requests ++ (size, align) ∷ [])
-  left_refused is not_allowed =
-      let here = rw is at not_allowed in
-      sym (left_at refuse 1 budget (length requests + 1) requests (size, align) (omega arith) ∙ rw (here, is) refl)
-
-  pub refusals_allowed : left ≡ left_of refuse 1 budget requests → refused ≡ refusals_of refuse 1 budget requests
-      → is_allowed refuse (length requests + 1) left size ≡ true
-      → refused ≡ refusals_of refuse 1 budget (requests ++ (size, align) ∷ [])
-  refusals_allowed is same allowed =
-      let here = rw is at allowed in
-      let more = refusals_at refuse 1 budget (length requests + 1) requests (size, align) (omega arith) in
-      let one : one_refusal refuse (length requests + 1) (left_of refuse 1 budget requests) size ≡ 0 = rw here refl in
-      omega (arith, same, more, one)
-
-  pub refusals_refused : left ≡ left_of refuse 1 budget requests → refused ≡ refusals_of refuse 1 budget requests
-      → is_allowed refuse (length requests + 1) left size ≡ false
-      → refused + 1 ≡ refusals_of refuse 1 budget (requests ++ (size, align) ∷ [])
-  refusals_refused is same not_allowed =
-      let here = rw is at not_allowed in
-      let more = refusals_at refuse 1 budget (length requests + 1) requests (size, align) (omega arith) in
-      let one : one_refusal refuse (length requests + 1) (left_of refuse 1 budget requests) size ≡ 1 = rw here refl in
-      omega (arith, same, more, one)
-
 -- a list that grew
 pub pushed : (ok : Bool) (old more new : List (ℕ × ℕ)) → ok ≡ true → new ≡ (if ok then more else old) → new ≡ more
 pushed true old more new is put = put
@@ -81,21 +49,22 @@ by_uses false same also go = go (eqb-true _ _ same) (eqb-true _ _ also)
 -- So are the facts of a source kept, unless memory has run out.
 module _ (e : Bool) (refuse : List ℕ) (budget left refused size align : ℕ) (requests new : List (ℕ × ℕ))
     (put : new ≡ requests ++ (size, align) ∷ []) (remains : IsTrue (e || left == left_of refuse 1 budget requests)) where
-  pub remains_allowed : is_allowed refuse (length requests + 1) left size ≡ true → IsTrue (e || left - size == left_of refuse 1 budget new)
-  remains_allowed allowed = by_use e remains (λ is. rw put (eq-eqb _ _ (left_allowed refuse budget left refused size align requests is allowed)))
-
-  pub remains_refused : is_allowed refuse (length requests + 1) left size ≡ false → IsTrue (e || left == left_of refuse 1 budget new)
-  remains_refused other = by_use e remains (λ is. rw put (eq-eqb _ _ (left_refused refuse budget left refused size align requests is other)))
+  pub remains_more : (allowed : Bool) → is_allowed refuse (length requests + 1) left size ≡ allowed
+      → IsTrue (e || (if allowed then left - size else left) == left_of refuse 1 budget new)
+  remains_more allowed so = by_use e remains (λ is.
+      let more = left_at refuse 1 budget (length requests + 1) requests (size, align) (omega arith) in
+      rw put (eq-eqb _ _ (sym (rw (← is, so) at more))))
 
   pub counts_allowed : IsTrue (e || refused == refusals_of refuse 1 budget requests) → is_allowed refuse (length requests + 1) left size ≡ true
       → IsTrue (e || refused == refusals_of refuse 1 budget new)
-  counts_allowed counts allowed = by_uses e remains counts (λ is same.
-      rw put (eq-eqb _ _ (refusals_allowed refuse budget left refused size align requests is same allowed)))
+  counts_allowed counts so = by_uses e remains counts (λ is same.
+      let more = rw (← is, so) at (refusals_at refuse 1 budget (length requests + 1) requests (size, align) (omega arith)) in
+      rw put (eq-eqb _ _ (omega (arith, same, more))))
 
   pub counts_refused : (risen : ℕ) → risen ≡ counted refused 1 → length requests < 2 ^ 63
       → IsTrue (e || refused == refusals_of refuse 1 budget requests) → is_allowed refuse (length requests + 1) left size ≡ false
       → IsTrue (e || risen == refusals_of refuse 1 budget new)
-  counts_refused risen rises few counts other = by_uses e remains counts (λ is same.
-      let one = refusals_refused refuse budget left refused size align requests is same other in
+  counts_refused risen rises few counts so = by_uses e remains counts (λ is same.
+      let more = rw (← is, so) at (refusals_at refuse 1 budget (length requests + 1) requests (size, align) (omega arith)) in
       let most = refusals_most refuse 1 budget requests in
-      rw put (eq-eqb _ _ (omega (arith, rises, one, same, most, few))))
+      rw put (eq-eqb _ _ (omega (arith, rises, more, same, most, few))))

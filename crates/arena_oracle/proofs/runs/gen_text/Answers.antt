@@ -1,6 +1,6 @@
-use Rattle.std.proofs.Common.{◌++◌, ap, refl, ◌∙◌}
+use Rattle.std.proofs.Common.{◌++◌, ap, refl, ◌∙◌, inl}
 use Rattle.arena_calls.specs.Ends.{summary_lines}
-use Rattle.arena_oracle.proofs.EndLemmas.{generated, not_generated, not_begun}
+use Rattle.arena_oracle.proofs.EndLemmas.{generated, not_generated}
 use Rattle.arena_oracle.proofs.runs.gen_text.Goals as goal
 
 pub returns-clause-ok : goal.returns-clause-ok
@@ -11,7 +11,7 @@ returns-clause-ok c =
     (c.put_summary.ensures ran.0 ran.4 ∙ ap (λ old. old ++ lines) c.in-Ok.ensures.items)
 
 pub returns-in_default-clause-err : goal.returns-in_default-clause-err
-returns-in_default-clause-err c = not_begun c.args.start c.args.count _ _ _ _ c.new-arena.ensures refl refl
+returns-in_default-clause-err c = not_generated c.args.start c.args.count _ _ _ _ c.new-arena.ensures (inl refl)
 
 pub returns-in_default-run_generated_within-clause-err : goal.returns-in_default-run_generated_within-clause-err
 returns-in_default-run_generated_within-clause-err c =
