@@ -45,9 +45,13 @@ aligned_up p n size align new_size new_align from to low aligned =
     sum_multiple p (down n new_align) new_align (aligned_below p size align new_size new_align from to low aligned) (down_mod n new_align)
 
 -- a cursor that moved to a place is valid
-pub place_valid : (at : Cursor) (p : ℕ) → IsTrue (is_valid at) → at.start ≤ p → p ≤ at.cursor → IsTrue (is_valid (record at { cursor = p }))
-place_valid at p valid low high =
-    let is = valid_is at valid in
-    let positive = is.positive in
-    let top = is.high in
-    grind (arith, nat_tests)
+pub place_valid : (at : Cursor) (size align p : ℕ) → IsTrue (is_valid at) → IsTrue (is_layout size align)
+    → place_below at.start at.cursor size align 1 ≡ Some p → IsTrue (is_valid (record at { cursor = p }))
+place_valid at size align p valid layout found =
+    let fits = place_fits at size align p valid layout found in grind (arith, nat_tests, fits.low, fits.high)
+
+pub place_high : (at : Cursor) (size align p : ℕ) → IsTrue (is_valid at) → IsTrue (is_layout size align)
+    → place_below at.start at.cursor size align 1 ≡ Some p → p + size ≤ at.cursor
+place_high at size align p valid layout found = (place_fits at size align p valid layout found).high
+
+pub ruleset place_laws = (place_fits, place_valid, place_high)

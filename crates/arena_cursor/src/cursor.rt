@@ -53,7 +53,7 @@ impl Cursor {
     }
 
     // Places a block below the cursor, which moves to it.
-    #[tactic(auto, using(crate::proofs::PlaceLemmas::place_fits))]
+    #[tactic(auto, using(crate::proofs::PlaceLemmas::place_laws))]
     pub(crate) fn alloc(&mut self, layout: Layout) -> Option<u64>
         requires { IsTrue (is_valid self.old) }
         ensures found { result ≡ place_below self.old.start self.old.cursor layout.size layout.align 1 }
