@@ -1,7 +1,7 @@
 -- A run whose picture was drawn, and one after which memory runs out.
 use Rattle.std.proofs.Common.{◌≡◌, ℕ, ◌∙◌, ◌<◌, List, length, take, take_all, Some, None, subst, sym, arith}
 use Rattle.std.specs.FinMap as finite
-use Rattle.std.proofs.lemmas.Option.{slice_get_past}
+use Rattle.std.proofs.lemmas.Option.{none-some, slice_get_past}
 use Rattle.arena_rules.specs.State.{State, IsValid}
 use Rattle.call_rules.specs.Machine.{run, told}
 use Rattle.arena_rules.specs.declared.place.Place.{Place}
@@ -38,9 +38,6 @@ drawn old new calls replies held Is text runs wrote is = record {
   placed = placed old.arena new.arena calls replies held runs;
 }
 
-none_some : {A : Type 0} (x : A) → None ≡ Some x → ⊥
-none_some x is = cc
-
 -- all calls of a run are the first ones of them
 pub first_all : (entry exit : View) (calls : List Call) (replies : List Reply) (held : List (ℕ × Block))
     → Runs entry exit calls replies held → RunsFirst entry exit calls (length calls)
@@ -53,5 +50,5 @@ first_all entry exit calls replies held runs =
       ran = subst (λ (cs : List Call). run entry.memory.state cs (told replies) ≡ Some (replies, runs.last)) (sym all) runs.ran;
       stands = runs.stands;
       leaves = subst (λ (cs : List Call). RunLeaves entry exit cs (told replies)) (sym all) runs.leaves;
-      stops = λ call some at. absurd (none_some call (sym (slice_get_past calls (length calls) (omega arith)) ∙ at));
+      stops = λ call some at. absurd (none-some call (sym (slice_get_past calls (length calls) (omega arith)) ∙ at));
     }

@@ -11,58 +11,38 @@ use Rattle.arena_drawing.specs.declared.shapes.Shape.{Shape}
 use Rattle.arena_drawing.specs.Text.{filled, label_template, label_text, shape_text, em_of, head_template, foot_template, svg_text}
 
 -- a number was appended in place of a `$`
-filled_number : (text numbers : List ℕ) (n : ℕ) → filled (36 ∷ text) (n ∷ numbers) ≡ decimal n ++ filled text numbers
+pub filled_number : (n : ℕ) (numbers text : List ℕ) → filled (36 ∷ text) (n ∷ numbers) ≡ decimal n ++ filled text numbers
 unfolding filled
-filled_number text numbers n = refl
+filled_number n numbers text = refl
 
 -- a byte that isn't one, or for which no number is left, was appended
-pub filled_byte : (text numbers : List ℕ) (n c : ℕ) → (c ≡ 36 → ⊥) → filled (c ∷ text) (n ∷ numbers) ≡ c ∷ filled text (n ∷ numbers)
+pub filled_byte : (n c : ℕ) (numbers : List ℕ) → (c ≡ 36 → ⊥) → (text : List ℕ) → filled (c ∷ text) (n ∷ numbers) ≡ c ∷ filled text (n ∷ numbers)
 unfolding filled
-filled_byte text numbers n c other = let test : (c == 36) ≡ false = grind (arith, nat_tests) in rw test refl
+filled_byte n c numbers other text = let test : (c == 36) ≡ false = grind (arith, nat_tests) in rw test refl
 
-filled_rest : (text : List ℕ) (c : ℕ) → filled (c ∷ text) [] ≡ c ∷ filled text []
+pub filled_rest : (c : ℕ) (numbers : List ℕ) → length numbers ≡ 0 → (text : List ℕ) → filled (c ∷ text) numbers ≡ c ∷ filled text numbers
 unfolding filled
-filled_rest text c = refl
-
-filled_end : (numbers : List ℕ) → filled [] numbers ≡ []
-unfolding filled
-filled_end numbers = refl
+filled_rest c [] none text = refl
+filled_rest c (n ∷ numbers) none text = absurd (omega (arith, none))
 
 next : (template : List ℕ) (i c : ℕ) → i < length template → c ≡ get_or template i 0 → drop i template ≡ c ∷ drop (i + 1) template
 next template i c below is =
     drop-cons template i 0 below ∙ ap (λ b. b ∷ drop (suc i) template) (sym is) ∙ ap (λ k. c ∷ drop k template) (sym (add-one i))
 
-pub number_put : (template old new whole numbers : List ℕ) (i n : ℕ) → i < length template → 36 ≡ get_or template i 0
-    → old ++ filled (drop i template) (n ∷ numbers) ≡ whole → new ≡ old ++ decimal n
-    → new ++ filled (drop (i + 1) template) numbers ≡ whole
-number_put template old new whole numbers i n below is before put =
-    ap (λ xs. xs ++ filled (drop (i + 1) template) numbers) put ∙ append_assoc old (decimal n) (filled (drop (i + 1) template) numbers)
-    ∙ ap (λ xs. old ++ xs) (sym (filled_number (drop (i + 1) template) numbers n))
-    ∙ ap (λ xs. old ++ filled xs (n ∷ numbers)) (sym (next template i 36 below is)) ∙ before
-
-pub byte_put : (template old new whole numbers : List ℕ) (i n c : ℕ) → i < length template → c ≡ get_or template i 0 → (c ≡ 36 → ⊥)
-    → old ++ filled (drop i template) (n ∷ numbers) ≡ whole → new ≡ old ++ c ∷ []
-    → new ++ filled (drop (i + 1) template) (n ∷ numbers) ≡ whole
-byte_put template old new whole numbers i n c below is other before put =
-    ap (λ xs. xs ++ filled (drop (i + 1) template) (n ∷ numbers)) put
-    ∙ append_assoc old (c ∷ []) (filled (drop (i + 1) template) (n ∷ numbers))
-    ∙ ap (λ xs. old ++ xs) (sym (filled_byte (drop (i + 1) template) numbers n c other))
-    ∙ ap (λ xs. old ++ filled xs (n ∷ numbers)) (sym (next template i c below is)) ∙ before
-
-pub rest_put : (template old new whole numbers : List ℕ) (i c : ℕ) → i < length template → c ≡ get_or template i 0 → length numbers ≡ 0
-    → old ++ filled (drop i template) numbers ≡ whole → new ≡ old ++ c ∷ []
-    → new ++ filled (drop (i + 1) template) numbers ≡ whole
-rest_put template old new whole [] i c below is none before put =
-    ap (λ xs. xs ++ filled (drop (i + 1) template) []) put ∙ append_assoc old (c ∷ []) (filled (drop (i + 1) template) [])
-    ∙ ap (λ xs. old ++ xs) (sym (filled_rest (drop (i + 1) template) c))
-    ∙ ap (λ xs. old ++ filled xs []) (sym (next template i c below is)) ∙ before
-rest_put template old new whole (n ∷ numbers) i c below is none before put = absurd (omega (arith, none))
+-- so the next byte of the template was filled in
+pub next_put : (template old new whole numbers left piece : List ℕ) (i c : ℕ) → i < length template → c ≡ get_or template i 0
+    → ((text : List ℕ) → filled (c ∷ text) numbers ≡ piece ++ filled text left)
+    → old ++ filled (drop i template) numbers ≡ whole → new ≡ old ++ piece → new ++ filled (drop (i + 1) template) left ≡ whole
+next_put template old new whole numbers left piece i c below is fills before put =
+    let rest = drop (i + 1) template in
+    ap (λ xs. xs ++ filled rest left) put ∙ append_assoc old piece (filled rest left) ∙ ap (λ xs. old ++ xs) (sym (fills rest))
+    ∙ ap (λ xs. old ++ filled xs numbers) (sym (next template i c below is)) ∙ before
 
 pub all_put : (template out whole numbers : List ℕ) (i : ℕ) → length template ≤ i → out ++ filled (drop i template) numbers ≡ whole
     → out ≡ whole
+unfolding filled
 all_put template out whole numbers i end before =
-    let none : filled (drop i template) numbers ≡ [] = ap (λ xs. filled xs numbers) (drop_all i template end) ∙ filled_end numbers in
-    sym (append-nil out) ∙ ap (λ xs. out ++ xs) (sym none) ∙ before
+    sym (append-nil out) ∙ ap (λ xs. out ++ filled xs numbers) (sym (drop_all i template end)) ∙ before
 
 -- ---- A block of some bytes
 
