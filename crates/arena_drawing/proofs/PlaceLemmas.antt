@@ -10,14 +10,6 @@ use Rattle.arena_chunks.specs.Walks.{told_chunk}
 use Rattle.arena_store.specs.declared.block.Block.{Block}
 use Rattle.arena_drawing.specs.Shapes.{has_block, place_from, StandsIn}
 
--- the chunk whose used part has a block has it, and one that begins after it doesn't
-using_has : (m : ℕ) (chunk : Chunk) (older : List Chunk) (block : Block) → AreChunks m (chunk ∷ older)
-    → IsTrue (is_used_by block.addr block.size chunk) → has_block (told_chunk chunk) block ≡ true
-using_has m chunk older block valid used = let low = valid.0.cursor_low in grind (arith, nat_tests)
-
-behind_lacks : (chunk : Chunk) (block : Block) → block.addr < chunk.base → has_block (told_chunk chunk) block ≡ false
-behind_lacks chunk block below = grind (arith, nat_tests)
-
 pub stands_in : (m row : ℕ) (chunks : List Chunk) (block : Block) → AreChunks m chunks → 0 < block.size
     → IsTrue (is_range_used chunks block.addr block.size)
     → StandsIn row (map told_chunk chunks) block (place_from row (map told_chunk chunks) block)
@@ -25,7 +17,8 @@ stands_in m row [] block valid some used = absurd (cc)
 stands_in m row (chunk ∷ older) block valid some used =
     elim (or_cases (is_used_by block.addr block.size chunk) (is_range_used older block.addr block.size) used) [
       | inl here ↦
-          let has = using_has m chunk older block valid here in
+          let begins = valid.0.cursor_low in
+          let has : has_block (told_chunk chunk) block ≡ true = grind (arith, nat_tests) in
           let low : chunk.cursor ≤ block.addr = grind (arith, nat_tests) in
           let high : block.addr + block.size ≤ data_end chunk = grind (arith, nat_tests) in
           let place : (row, block.addr - chunk.base) ≡ place_from row (map told_chunk (chunk ∷ older)) block = rw has refl in
@@ -41,7 +34,8 @@ stands_in m row (chunk ∷ older) block valid some used =
           })
       | inr there ↦
           let under = used_under m block.addr block.size older valid.2 some there in
-          let lacks = behind_lacks chunk block (omega (arith, under, valid.1, some)) in
+          let above : block.addr < chunk.base = omega (arith, under, valid.1, some) in
+          let lacks : has_block (told_chunk chunk) block ≡ false = grind (arith, nat_tests) in
           let rest = stands_in m (row + 1) older block valid.2 some there in
           let place : place_from (row + 1) (map told_chunk older) block ≡ place_from row (map told_chunk (chunk ∷ older)) block
           = rw lacks refl in
