@@ -36,17 +36,6 @@ too_long lines arena long = (
   ),
 )
 
--- a line is refused, and nothing was run
-pub bad_line : (lines : List ℕ) (arena : View) (n : ℕ) → length lines ≤ limit → CallsOf lines (Err n)
-    → YieldsNothing (status.BadLine n) lines arena arena
-bad_line lines arena n small read = (
-  Some [],
-  (
-    record { reads = refl; writes = refl },
-    (record { arena = refl; written = refl }, (lines, record { told = (refl, refl); small = small }, read)),
-  ),
-)
-
 -- memory ran out before the first call
 pub no_memory : (lines : List ℕ) (arena : View) → length lines ≤ limit → YieldsNothing status.OutOfMemory lines arena arena
 no_memory lines arena small = (
@@ -77,6 +66,8 @@ stopped lines entry exit calls read same small are stops = elim stops [
     ),
   )
 ]
+
+pub ruleset stop_laws = (too_long, no_memory)
 
 -- or after it
 pub stopped_after : (lines : List ℕ) (entry exit : View) (replies : List Reply) (held : List (ℕ × Block))

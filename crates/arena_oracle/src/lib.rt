@@ -29,6 +29,7 @@ use std::alloc::Global;
 /// refused. Returns the exit status of the program for the word `calls`, or 7 where the text has no room. If memory runs
 /// out, also for a chunk within the limits, that is 3.
 #[unsafe(no_mangle)]
+#[tactic(auto, using(crate::proofs::ReturnLemmas::long_code))]
 pub extern "C" fn arena_oracle_calls(
     alloc: Global,
     lines: &[u8],
@@ -74,6 +75,7 @@ pub extern "C" fn arena_oracle_gen(
 
 /// Runs lines of calls, and returns a picture of the arena after them in the same way, as SVG.
 #[unsafe(no_mangle)]
+#[tactic(auto, using(crate::proofs::ReturnLemmas::long_code))]
 pub extern "C" fn arena_oracle_draw(
     alloc: Global,
     lines: &[u8],

@@ -22,6 +22,7 @@ const LIMIT: usize = 16_777_216;
 
 // Runs lines of calls over an arena. Returns the blocks that names hold afterwards, or the status of a run that has
 // nothing to write.
+#[tactic(auto, using(crate::proofs::EndLemmas::stop_laws))]
 fn run_lines(
     alloc: Global,
     lines: &[u8],

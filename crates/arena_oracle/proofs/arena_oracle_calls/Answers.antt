@@ -1,5 +1,5 @@
 use Rattle.arena_oracle.specs.Answers.{CallsWithin}
-use Rattle.arena_oracle.proofs.ReturnLemmas.{long_code, returned}
+use Rattle.arena_oracle.proofs.ReturnLemmas.{returned}
 use Rattle.arena_oracle.proofs.arena_oracle_calls.Goals as goal
 
 pub returns-in-Ok-clause-ends : goal.returns-in-Ok-clause-ends
@@ -11,6 +11,3 @@ pub returns-clause-ends : goal.returns-clause-ends
 returns-clause-ends c =
     returned CallsWithin c.args.lines.now c.args.budget c.args.refuse.now _ c.run_text.new.chunks _ _ _ _ _ _ c.new-chunks.ensures
     c.in-Err.ensures.err c.return_text-in-Err.ensures
-
-pub returns-clause-long : goal.returns-clause-long
-returns-clause-long c = λ over. long_code c.in-Err.status _ _ _ _ _ c.return_text-in-Err.ensures (c.in-Err.ensures.long over)

@@ -1,12 +1,6 @@
 use Rattle.std.proofs.Common.{arith}
-use Rattle.arena_oracle.proofs.EndLemmas.{too_long, no_memory, stopped, ran_lines}
+use Rattle.arena_oracle.proofs.EndLemmas.{stopped, ran_lines}
 use Rattle.arena_oracle.proofs.runs.run_lines.Goals as goal
-
-pub returns-then-lines-gt-LIMIT-clause-err : goal.returns-then-lines-gt-LIMIT-clause-err
-returns-then-lines-gt-LIMIT-clause-err c = too_long _ _ (omega (arith, c.if-lines-gt-LIMIT.true))
-
-pub returns-in-Err-OutOfMemory-clause-err : goal.returns-in-Err-OutOfMemory-clause-err
-returns-in-Err-OutOfMemory-clause-err c = no_memory _ _ (omega (arith, c.if-lines-gt-LIMIT.false))
 
 pub returns-in-Ok-run_calls_within-clause-ok : goal.returns-in-Ok-run_calls_within-clause-ok
 returns-in-Ok-run_calls_within-clause-ok c =
