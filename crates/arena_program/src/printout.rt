@@ -40,6 +40,7 @@ impl<C: ChunkSource + Drop> Printout<C> {
 }
 
 // Adds a text behind the others.
+#[tactic(auto, using(crate::proofs::PrintoutLemmas::joined_last))]
 fn add(texts: &mut Vec<Vec<u8>>, text: Vec<u8>) -> Result<(), OutOfMemory>
     ensures { OnOk result (joined texts.new.items ≡ joined texts.old.items ++ text.items) }
 {
@@ -90,6 +91,7 @@ pub fn join<O: Tells + Drop, C: ChunkSource + Drop>(
 }
 
 /// Writes texts one after another. Returns `Done`, or `WriteFault` where only a first part was written.
+#[tactic(auto, using(crate::proofs::PrintoutLemmas::part_of_all))]
 pub fn print_all<O: Output>(output: &mut O, texts: &[Vec<u8>]) -> Status
     ensures { Prints (joined texts.now) result (O.written output.old) (O.faults output.old) (O.written output.new) (O.faults output.new) }
 {
