@@ -1,21 +1,19 @@
 -- The cursor of the newest chunk, and where it may move.
-use Rattle.std.proofs.Common.{◌≡◌, ℕ, ◌+◌, ◌-◌, ◌%◌, ◌^◌, ◌<◌, ◌≤◌, arith, List, [], ◌∷◌, false, Bool, true}
-use Rattle.arena_rules.specs.State.{State, Chunk, AreChunks, FitsKind, IsValid, start_of, cursor_of, top_of, floor_of, with_cursor, with_newest_cursor}
+use Rattle.std.proofs.lemmas.Bool.Decides.{nat_tests}
+use Rattle.std.proofs.Common.{◌≡◌, ℕ, ◌+◌, ◌-◌, ◌%◌, ◌^◌, ◌<◌, ◌≤◌, arith, List}
+use Rattle.arena_rules.specs.State.{State, Chunk, IsValid, start_of, cursor_of, top_of, floor_of, with_cursor, with_newest_cursor}
 use Rattle.arena_rules.specs.Moves.{set_cursor}
 use Rattle.arena_rules.proofs.RoundingLemmas.{min_align_multiple}
 
-pub floor_positive : (chunks : List Chunk) → 0 < floor_of chunks
-floor_positive chunks = grind arith
-
 pub start_positive : (state : State) → IsValid state → 0 < start_of state.chunks
-start_positive state valid = grind (arith, floor_positive)
+start_positive state valid = grind arith
 
 pub cursor_within : (state : State) → IsValid state → (start_of state.chunks ≤ cursor_of state.chunks)
     × (cursor_of state.chunks ≤ top_of state.chunks)
 cursor_within state valid = grind arith
 
 pub cursor_aligned : (state : State) → IsValid state → cursor_of state.chunks % state.min_align ≡ 0
-cursor_aligned state valid = grind (arith, min_align_multiple)
+cursor_aligned state valid = grind arith
 
 -- data ends are multiples of 16
 pub top_units : (state : State) → IsValid state → top_of state.chunks % 16 ≡ 0
@@ -28,47 +26,15 @@ top_aligned state valid = min_align_multiple (top_of state.chunks) state.min_ali
 pub top_le : (state : State) → IsValid state → top_of state.chunks + 48 ≤ 2 ^ 64 - 1
 top_le state valid = grind arith
 
-chunks_set : (m p : ℕ) → (chunks : List Chunk) → AreChunks m chunks → start_of chunks ≤ p → p ≤ top_of chunks → p % m ≡ 0
-    → AreChunks m (with_newest_cursor p chunks)
-chunks_set m p [] valid low high aligned = tt
-chunks_set m p (newest ∷ older) valid low high aligned = (
-  record {
-    base_aligned = valid.0.base_aligned;
-    size_aligned = valid.0.size_aligned;
-    size_fits = valid.0.size_fits;
-    cursor_aligned = aligned;
-    cursor_low = low;
-    cursor_high = high;
-  },
-  valid.1,
-  valid.2,
-)
-
-kind_set : (growing : Bool) (p : ℕ) → (chunks : List Chunk) → FitsKind growing chunks → FitsKind growing (with_newest_cursor p chunks)
-kind_set true p (newest ∷ older) fits = fits
-kind_set false p (newest ∷ (next ∷ older)) fits = fits
-kind_set _ p _ fits = fits
-
-floor_set : (p : ℕ) → (chunks : List Chunk) → floor_of (with_newest_cursor p chunks) ≡ floor_of chunks
-floor_set p chunks = grind arith
-
 -- A cursor may be any multiple of the least alignment in the newest chunk.
 pub valid_set : (state : State) (p : ℕ) → IsValid state → start_of state.chunks ≤ p → p ≤ top_of state.chunks → p % state.min_align ≡ 0
     → IsValid (with_cursor p state)
-valid_set state p valid low high aligned = record {
-  min_align = valid.min_align;
-  chunks = chunks_set state.min_align p state.chunks valid.chunks low high aligned;
-  top = rw (floor_set p state.chunks) valid.top;
-  kind = kind_set state.is_growing p state.chunks valid.kind;
-  generation = valid.generation;
-}
+valid_set state p valid low high aligned = grind (arith, nat_tests)
 
 pub set_cursor_valid : (state : State) (p : ℕ) → IsValid state → start_of state.chunks ≤ p → p ≤ top_of state.chunks
     → p % state.min_align ≡ 0
     → IsValid (set_cursor p state)
-set_cursor_valid state p valid low high aligned =
-    let moved = valid_set state p valid low high aligned in
-    record { min_align = moved.min_align; chunks = moved.chunks; top = moved.top; kind = moved.kind; generation = omega arith }
+set_cursor_valid state p valid low high aligned = grind (arith, nat_tests, valid_set)
 
 pub valid_moved : (state : State) (p : ℕ) → IsValid state → start_of state.chunks ≤ p → p ≤ cursor_of state.chunks → p % state.min_align ≡ 0
     → IsValid (with_cursor p state)

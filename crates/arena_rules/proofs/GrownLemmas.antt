@@ -1,8 +1,9 @@
 -- What becomes of the chunks in an allocation, and when an allocation fails.
-use Rattle.std.proofs.Common.{◌≡◌, ℕ, ◌+◌, ◌-◌, ◌<◌, ◌≤◌, refl, arith, IsTrue, Some, None, List, [], ◌∷◌, length, map, sym}
+use Rattle.arena_rules.proofs.CursorLemmas.{floor_near}
+use Rattle.std.proofs.lemmas.Bool.Decides.{nat_tests}
+use Rattle.std.proofs.Common.{◌≡◌, ℕ, ◌+◌, ◌-◌, ◌<◌, ◌≤◌, arith, IsTrue, Some, None, length, map}
 use Rattle.std.proofs.lemmas.List.Sums.{sum_by-cons}
-use Rattle.std.proofs.lemmas.Option.{none-some}
-use Rattle.arena_rules.specs.Rounding.{up, is_power}
+use Rattle.arena_rules.specs.Rounding.{is_power}
 use Rattle.arena_rules.specs.State.{State, Chunk, IsValid, floor_of, used_bytes, with_cursor}
 use Rattle.arena_rules.specs.Search.{place, next_base, asked}
 use Rattle.arena_rules.specs.Moves.{Outcome, alloc, with_chunk, dealloc}
@@ -12,7 +13,6 @@ use Rattle.arena_rules.proofs.RoundingLemmas.{up_close}
 use Rattle.arena_rules.proofs.AllocLemmas.{entry_of, growing_of, alloc_each}
 use Rattle.arena_rules.proofs.AskedSizeLemmas.{all_asked, chunk_align_small}
 use Rattle.arena_rules.proofs.ListLemmas.{all_get}
-use Rattle.arena_rules.proofs.ReturnLemmas.{dealloc_by}
 
 -- ---- What becomes of the chunks
 
@@ -27,20 +27,16 @@ pub cursor_grown : (p : ℕ) (state : State) → HasGrown state (with_cursor p s
 cursor_grown p state = record { allocated = grind arith; top = grind arith }
 
 -- one more chunk
-chunk_grown : (state : State) (e : ℕ × ℕ) → e.0 < floor_of state.chunks + 16 → 16320 ≤ e.1 → HasGrown state (with_chunk e state)
-chunk_grown state e near large = go state.chunks near
-  where
-    go : (chunks : List Chunk) → e.0 < floor_of chunks + 16 → HasGrown (record state { chunks = chunks })
-        (with_chunk e (record state { chunks = chunks }))
-    go [] near = record { allocated = omega arith; top = omega arith }
-    go (newest ∷ older) near =
-        let more = sum_by-cons (λ (n : ℕ). n) e.1 (map (λ (c : Chunk). c.size) (newest ∷ older)) in
-        record { allocated = omega (arith, more); top = omega (arith, more, near) }
+chunk_grown : (state : State) (e : ℕ × ℕ) (p : ℕ) → e.0 < floor_of state.chunks + 16 → 16320 ≤ e.1
+    → HasGrown state (with_cursor p (with_chunk e state))
+chunk_grown state e p near large =
+    let more = sum_by-cons (λ (n : ℕ). n) e.1 (map (λ (c : Chunk). c.size) state.chunks) in
+    omega (arith, floor_near state.chunks)
 
 -- a block that is given back
 pub dealloc_grown : (state : State) (p size : ℕ) → HasGrown state (dealloc state p size)
-dealloc_grown state p size =
-    dealloc_by (HasGrown state) state p size (λ last. cursor_grown (up (p + size) state.min_align) state) (grown_not state)
+unfolding dealloc
+dealloc_grown state p size = grind (arith, nat_tests, cursor_grown, grown_not)
 
 -- An allocation moves a cursor, perhaps in one more chunk, or fails.
 pub alloc_grown : (state : State) (size align k : ℕ) (outcome : Outcome) → IsValid state → IsTrue (is_power align) → align ≤ 16
@@ -53,8 +49,7 @@ alloc_grown state size align k outcome valid power small =
     rw (chunk_align_small align small) (up_close (floor_of state.chunks) 16 (omega arith)) in
     let size_is = all_get _ (asked state size align) k e
     (all_asked state size align (used_bytes state + size + (unit_of state align - 1)) valid none small (omega arith)) found in
-    grown_then state (with_chunk e state) (with_cursor p (with_chunk e state))
-    (chunk_grown state e (omega (arith, entry.based, near)) size_is.0) (cursor_grown p (with_chunk e state)))
+    chunk_grown state e p (omega (arith, entry.based, near)) size_is.0)
     (λ none all. grown_not state)
 
 -- ---- Where all are refused
@@ -66,7 +61,5 @@ pub record IsFailed (state : State) (size align k : ℕ) : Type 0 where
 
 pub alloc_failed : (state new : State) (size align k : ℕ) → IsValid state → IsTrue (is_power align)
     → alloc state size align k ≡ Some (record { answer = None; state = new }) → IsFailed state size align k
-alloc_failed state new size align k valid power step =
-    alloc_each (λ (o : Outcome). o.answer ≡ None → IsFailed state size align k) state size align k (record { answer = None; state = new })
-    (λ p found is. absurd (none-some p (sym is))) (λ e p none found there is. absurd (none-some p (sym is)))
-    (λ none all is. record { none = none; all = all }) step refl
+unfolding alloc
+alloc_failed state new size align k valid power step = grind (arith, nat_tests)

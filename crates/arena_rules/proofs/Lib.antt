@@ -23,7 +23,6 @@ pub mod GrownLemmas
 pub mod AskingLemmas
 pub mod DoublingLemmas
 mod Rows
-mod UsedRows
 pub mod BackLemmas
 pub mod MarkLemmas
 pub mod MarkPartLemmas

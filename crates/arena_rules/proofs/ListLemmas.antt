@@ -1,7 +1,7 @@
 -- What holds of all items of a list.
-use Rattle.std.proofs.Common.{◌≡◌, ℕ, zero, suc, subst, refl, Some, None, Option, List, [], ◌∷◌, ◌++◌, take, map}
+use Rattle.std.proofs.Common.{arith, ◌≡◌, ℕ, zero, suc, subst, Some, Option, List, [], ◌∷◌, ◌++◌, take, map}
 use Rattle.std.specs.Prelude.{slice_get}
-use Rattle.std.specs.List.{filter_map, cons_option, AllByRecursion}
+use Rattle.std.specs.List.{filter_map, AllByRecursion}
 use Rattle.std.proofs.lemmas.Option.{same_Some}
 
 module _ {X : Type 0} (P : X → Type 0) where
@@ -36,8 +36,4 @@ all_map f P Q follows (x ∷ xs) all = (follows x all.0, all_map f P Q follows x
 pub all_filtered : {X Y : Type 0} (h : X → Option Y) (P : X → Type 0) (Q : Y → Type 0)
     → ((x : X) (y : Y) → P x → h x ≡ Some y → Q y) → (xs : List X) → AllByRecursion P xs → AllByRecursion Q (filter_map h xs)
 all_filtered h P Q follows [] all = tt
-all_filtered {X} {Y} h P Q follows (x ∷ xs) all = go (h x) refl (all_filtered h P Q follows xs all.1)
-  where
-    go : (o : Option Y) → h x ≡ o → AllByRecursion Q (filter_map h xs) → AllByRecursion Q (cons_option o (filter_map h xs))
-    go None is rest = rest
-    go (Some y) is rest = (follows x y all.0 is, rest)
+all_filtered h P Q follows (x ∷ xs) all = let rest = all_filtered h P Q follows xs all.1 in grind arith

@@ -1,8 +1,6 @@
 -- The place of a block.
-use Rattle.std.proofs.Common.{◌≡◌, ℕ, ◌+◌, ◌-◌, ◌%◌, ◌<◌, ◌≤◌, max, sym, arith, IsTrue, Some, None, leb-true}
-use Rattle.std.specs.Prelude.{nat_le}
+use Rattle.std.proofs.Common.{◌≡◌, ℕ, ◌+◌, ◌-◌, ◌%◌, ◌<◌, ◌≤◌, max, arith, IsTrue, Some, None}
 use Rattle.std.proofs.lemmas.Bool.Decides.{nat_tests}
-use Rattle.std.proofs.lemmas.Option.{cond_some}
 use Rattle.arena_rules.specs.Rounding.{down, is_power}
 use Rattle.arena_rules.specs.State.{is_min_align}
 use Rattle.arena_rules.specs.Search.{place_below}
@@ -20,17 +18,9 @@ pub is_place : (start cursor size align m p : ℕ) → 0 < start → IsTrue (is_
 is_place start cursor size align m p positive power min_align found =
     let second = min_align_power m min_align in
     let whole = max_power align m power second in
-    let tested = cond_some (nat_le start (down (cursor - size) (max align m))) (down (cursor - size) (max align m)) p found in
-    let low : start ≤ down (cursor - size) (max align m) = leb-true _ _ tested.0 in
-    let bound = down_le (cursor - size) (max align m) in
-    let multiple : p % max align m ≡ 0 = rw (← tested.1) (down_mod (cursor - size) (max align m)) in
-    record {
-      low = omega (arith, tested.1);
-      high = omega (arith, tested.1);
-      aligned = power_multiple p align (max align m) power whole (omega arith) multiple;
-      min_aligned = power_multiple p m (max align m) second whole (omega arith) multiple;
-      is = sym tested.1;
-    }
+    let align_divides = power_multiple p align (max align m) power whole (omega arith) in
+    let least_divides = power_multiple p m (max align m) second whole (omega arith) in
+    grind (arith, nat_tests, down_le, down_mod)
 
 -- There is a place if the size fits above an aligned base.
 pub place_found : (base cursor size align m : ℕ) → IsTrue (is_power align) → IsTrue (is_min_align m)
@@ -45,5 +35,4 @@ place_found base cursor size align m power min_align aligned fits =
 -- a size greater than the cursor has no place
 pub past_none : (start cursor size align m : ℕ) → 0 < start → cursor < size → None ≡ place_below start cursor size align m
 past_none start cursor size align m positive past =
-    let low = down_le (cursor - size) (max align m) in
-    grind (arith, nat_tests)
+    grind (arith, nat_tests, down_le (cursor - size) (max align m))

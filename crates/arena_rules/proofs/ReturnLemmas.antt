@@ -1,16 +1,15 @@
 -- Blocks that are given back.
-use Rattle.std.proofs.Common.{◌≡◌, ℕ, ◌+◌, ◌<◌, ◌≤◌, inl, inr, refl, ap, sym, subst, ◌∙◌, arith, List, IsTrue, eq-eqb, ne_eqb, sum, map}
-use Rattle.std.proofs.lemmas.Bool.{cases_eq, cases_lt}
+use Rattle.std.proofs.Common.{◌==◌, eqb-true, add-zero, ◌≡◌, ℕ, ◌+◌, ◌<◌, ◌≤◌, refl, arith, List, IsTrue, eq-eqb, ne_eqb, sum, map}
+use Rattle.std.proofs.lemmas.Bool.{cond_both}
 use Rattle.std.proofs.lemmas.Bool.Decides.{nat_tests}
 use Rattle.arena_rules.specs.Rounding.{up}
-use Rattle.arena_rules.specs.State.{State, Chunk, IsValid, start_of, cursor_of, top_of, with_cursor, with_newest_cursor, is_range_used, allocated_bytes}
+use Rattle.arena_rules.specs.State.{State, Chunk, IsValid, start_of, cursor_of, top_of, with_cursor, with_newest_cursor, is_range_used, is_place_used, allocated_bytes}
 use Rattle.arena_rules.specs.Moves.{dealloc}
-use Rattle.arena_rules.specs.State.{is_place_used}
-use Rattle.arena_rules.specs.Blocks.{padded_size, LieBeside}
+use Rattle.arena_rules.specs.Blocks.{LieBeside}
 use Rattle.arena_rules.specs.declared.place.Place.{Place}
 use Rattle.arena_rules.proofs.RoundingLemmas.{up_ge, up_mod, up_same, up_least, min_align_positive}
 use Rattle.arena_rules.proofs.CursorLemmas.{cursor_within, cursor_aligned, top_aligned, valid_set}
-use Rattle.arena_rules.proofs.UsedLemmas.{used_set, used_top, used_before}
+use Rattle.arena_rules.proofs.UsedLemmas.{used_under}
 
 -- Only a block at the cursor moves the cursor.
 pub dealloc_at : (state : State) (p size : ℕ) → p ≡ cursor_of state.chunks
@@ -25,10 +24,9 @@ dealloc_elsewhere state p size other = rw (ne_eqb _ _ other) refl
 -- A property of states holds after a block was given back, if it held before and holds at the new cursor.
 pub dealloc_by : (P : State → Type 0) (state : State) (p size : ℕ)
     → (p ≡ cursor_of state.chunks → P (with_cursor (up (p + size) state.min_align) state)) → P state → P (dealloc state p size)
-dealloc_by P state p size moved still = elim (cases_eq p (cursor_of state.chunks)) [
-  | inl at ↦ subst P (sym (dealloc_at state p size at)) (moved at)
-  | inr other ↦ subst P (sym (dealloc_elsewhere state p size other)) still
-]
+unfolding dealloc
+dealloc_by P state p size moved still =
+    cond_both (p == cursor_of state.chunks) _ _ P (λ at. moved (eqb-true _ _ at)) (λ other. still)
 
 pub dealloc_min_align : (state : State) (p size : ℕ) → (dealloc state p size).min_align ≡ state.min_align
 dealloc_min_align state p size = dealloc_by (λ (s : State). s.min_align ≡ state.min_align) state p size (λ at. refl) refl
@@ -46,18 +44,13 @@ allocated_moved p chunks = grind arith
 
 pub dealloc_allocated : (state : State) (p size : ℕ) → allocated_bytes (dealloc state p size) ≡ allocated_bytes state
 dealloc_allocated state p size =
-    dealloc_by (λ (s : State). allocated_bytes s ≡ allocated_bytes state) state p size
-    (λ at. allocated_moved (up (p + size) state.min_align) state.chunks) refl
+    dealloc_by (λ (s : State). allocated_bytes s ≡ allocated_bytes state) state p size (λ at. grind arith) refl
 
 -- A range in use apart from the padded block stays in use.
 pub dealloc_keeps : (state : State) (p size addr n : ℕ) → 0 < n → IsTrue (is_range_used state.chunks addr n) → LieBeside state p size addr n
     → IsTrue (is_range_used (dealloc state p size).chunks addr n)
-dealloc_keeps state p size addr n some used apart =
-    dealloc_by (λ (s : State). IsTrue (is_range_used s.chunks addr n)) state p size
-    (λ at. used_set (up (p + size) state.min_align) addr n state.chunks (λ from. elim (cases_lt 0 (padded_size state.min_align p size)) [
-      | inl filled ↦ elim (apart filled some) [ inl above ↦ omega arith | inr below ↦ absurd (omega arith) ]
-      | inr none ↦ omega arith
-    ]) used) used
+unfolding dealloc
+dealloc_keeps state p size addr n some used apart = grind (arith, nat_tests, apart)
 
 -- A block at the cursor is given back.
 pub record IsReturn (state : State) (p size q : ℕ) : Type 0 where
@@ -71,15 +64,9 @@ pub is_return : (state : State) (p size q : ℕ) → IsValid state → p ≡ cur
     → IsReturn state p size q
 is_return state p size q valid at fits is =
     let positive = min_align_positive state.min_align valid.min_align in
-    let low : start_of state.chunks ≤ q = omega (arith, cursor_within state valid, up_ge (p + size) state.min_align positive) in
-    let high : q ≤ top_of state.chunks = omega
-    (arith, up_least (p + size) state.min_align (top_of state.chunks) positive (top_aligned state valid) fits) in
-    record {
-      valid = valid_set state q valid low high (rw is (up_mod (p + size) state.min_align));
-      step = dealloc_at state p size at ∙ ap (λ (n : ℕ). with_cursor n state) (sym is);
-      low = low;
-      high = high;
-    }
+    let low = up_ge (p + size) state.min_align positive in
+    let high = up_least (p + size) state.min_align (top_of state.chunks) positive (top_aligned state valid) fits in
+    grind (arith, dealloc_at state p size at, valid_set state q valid, cursor_within state valid, up_mod (p + size) state.min_align)
 
 pub used_filled : (state : State) (place : Place) → 0 < place.size → IsTrue (is_place_used state place)
     → IsTrue (is_range_used state.chunks place.addr place.size)
@@ -88,39 +75,26 @@ used_filled state place some used = grind (arith, nat_tests)
 -- a block at the cursor ends in the newest chunk
 pub block_end : (state : State) (block : Place) → IsValid state → IsTrue (is_place_used state block) → block.addr ≡ cursor_of state.chunks
     → block.addr + block.size ≤ top_of state.chunks
-block_end state block valid used at =
-    let inside = cursor_within state valid in
-    elim (cases_lt 0 block.size) [
-      | inl some ↦ used_top state.min_align block.addr block.size state.chunks valid.chunks some (omega arith)
-          (used_filled state block some used)
-      | inr none ↦ omega arith
-    ]
+block_end state block valid used at = grind (arith, nat_tests, cursor_within state valid, used_under)
 
 -- A state stays valid if the block was in use or empty.
 pub dealloc_valid : (state : State) (block : Place) → IsValid state → IsTrue (is_place_used state block)
     → IsValid (dealloc state block.addr block.size)
 dealloc_valid state block valid used =
     dealloc_by IsValid state block.addr block.size
-    (λ at. (is_return state block.addr block.size (up (block.addr + block.size) state.min_align) valid at
-    (block_end state block valid used at) refl).valid) valid
-
-cursor_same : (chunks : List Chunk) → with_newest_cursor (cursor_of chunks) chunks ≡ chunks
-cursor_same chunks = grind arith
+    (λ at. (is_return state block.addr block.size _ valid at (block_end state block valid used at) refl).valid) valid
 
 -- Giving back an empty block changes nothing.
 pub dealloc_empty : (state : State) (p : ℕ) → IsValid state → dealloc state p 0 ≡ state
 dealloc_empty state p valid =
     let positive = min_align_positive state.min_align valid.min_align in
-    let aligned = cursor_aligned state valid in
-    dealloc_by (λ (s : State). s ≡ state) state p 0
-    (λ at. ap (λ (q : ℕ). with_cursor (up q state.min_align) state) (omega (arith, at))
-    ∙ ap (λ (q : ℕ). with_cursor q state) (up_same (cursor_of state.chunks) state.min_align positive aligned)
-    ∙ ap (λ (chunks : List Chunk). record state { chunks = chunks }) (cursor_same state.chunks)) refl
+    let same = up_same (cursor_of state.chunks) state.min_align positive (cursor_aligned state valid) in
+    dealloc_by (λ (s : State). s ≡ state) state p 0 (λ at. rw (at, add-zero, same) (grind arith)) refl
 
 -- Nothing comes into use.
 pub dealloc_fewer : (state : State) (p size addr n : ℕ) → IsValid state → IsTrue (is_range_used (dealloc state p size).chunks addr n)
     → IsTrue (is_range_used state.chunks addr n)
-dealloc_fewer state p size addr n valid =
-    dealloc_by (λ (s : State). IsTrue (is_range_used s.chunks addr n) → IsTrue (is_range_used state.chunks addr n)) state p size
-    (λ at. used_before (up (p + size) state.min_align) addr n state.chunks
-    (omega (arith, up_ge (p + size) state.min_align (min_align_positive state.min_align valid.min_align)))) (λ used. used)
+unfolding dealloc
+dealloc_fewer state p size addr n valid used = grind (arith, nat_tests, up_ge, min_align_positive)
+
+pub ruleset return_laws = (dealloc_min_align, dealloc_is_growing, dealloc_generation, dealloc_empty, dealloc_keeps, dealloc_fewer)

@@ -1,27 +1,13 @@
 -- Ranges in use: where they are, and which remain with a new cursor or a new chunk.
-use Rattle.std.proofs.Common.{ℕ, ◌+◌, ◌^◌, ◌<◌, ◌≤◌, ◌⊎◌, inl, inr, arith, List, [], ◌∷◌, IsTrue}
-use Rattle.std.proofs.lemmas.Bool.{or_cases, or_right}
+use Rattle.std.proofs.Common.{ℕ, ◌+◌, ◌^◌, ◌<◌, ◌≤◌, ◌⊎◌, arith, List, [], ◌∷◌, IsTrue}
 use Rattle.std.proofs.lemmas.Bool.Decides.{nat_tests}
 use Rattle.arena_rules.proofs.CursorLemmas.{top_le}
-use Rattle.arena_rules.specs.State.{State, Chunk, AreChunks, IsValid, start_of, cursor_of, top_of, floor_of, data_end, with_newest_cursor, is_used_by, is_range_used}
-
--- the bounds that the test compares
-pub record IsWithin (addr n : ℕ) (chunk : Chunk) : Type 0 where
-  pub low : chunk.cursor ≤ addr
-  pub high : addr + n ≤ data_end chunk
-
-pub within : (addr n : ℕ) (chunk : Chunk) → IsTrue (is_used_by addr n chunk) → IsWithin addr n chunk
-within addr n chunk used = record { low = grind (arith, nat_tests); high = grind (arith, nat_tests) }
+use Rattle.arena_rules.specs.State.{State, Chunk, AreChunks, IsValid, start_of, cursor_of, top_of, floor_of, with_newest_cursor, is_range_used}
 
 -- a range in the newest chunk stays in use if the cursor moves to a place below it
 pub used_set : (q addr n : ℕ) → (chunks : List Chunk) → (cursor_of chunks ≤ addr → q ≤ addr) → IsTrue (is_range_used chunks addr n)
     → IsTrue (is_range_used (with_newest_cursor q chunks) addr n)
 used_set q addr n chunks low used = grind (arith, nat_tests)
-
--- one more chunk leaves in use what was
-pub used_grown : (addr n : ℕ) (chunk : Chunk) (chunks : List Chunk) → IsTrue (is_range_used chunks addr n)
-    → IsTrue (is_range_used (chunk ∷ chunks) addr n)
-used_grown addr n chunk chunks used = or_right (is_used_by addr n chunk) (is_range_used chunks addr n) used
 
 -- what is in use is below the floor of the next chunk
 pub used_under : (m addr n : ℕ) → (chunks : List Chunk) → AreChunks m chunks → 0 < n → IsTrue (is_range_used chunks addr n)
@@ -40,10 +26,7 @@ used_low state addr n valid some = go state.chunks valid.chunks
   where
     go : (chunks : List Chunk) → AreChunks state.min_align chunks → IsTrue (is_range_used chunks addr n) → 4096 ≤ addr
     go [] fine used = cc
-    go (newest ∷ older) fine used = elim (or_cases (is_used_by addr n newest) (is_range_used older addr n) used) [
-      | inl here ↦ omega (arith, within addr n newest here, fine.0.cursor_low, fine.1, floor_least state.min_align older fine.2)
-      | inr there ↦ go older fine.2 there
-    ]
+    go (newest ∷ older) fine used = grind (arith, nat_tests, fine.0.cursor_low, floor_least state.min_align older fine.2, go older fine.2)
 
 -- what is in use ends at or below the newest chunk's data end
 pub used_high : (state : State) (addr n : ℕ) → IsValid state → 0 < n → IsTrue (is_range_used state.chunks addr n)
@@ -63,18 +46,6 @@ used_beside m addr n chunks valid some used = grind (arith, nat_tests, used_unde
 pub used_from : (p size : ℕ) → (chunks : List Chunk) → 0 < size → start_of chunks ≤ p → p + size ≤ top_of chunks
     → IsTrue (is_range_used (with_newest_cursor p chunks) p size)
 used_from p size chunks some low high = grind (arith, nat_tests)
-
--- a range in use from the newest chunk on ends there
-pub used_top : (m addr n : ℕ) → (chunks : List Chunk) → AreChunks m chunks → 0 < n → start_of chunks ≤ addr
-    → IsTrue (is_range_used chunks addr n)
-    → addr + n ≤ top_of chunks
-used_top m addr n chunks valid some low used = grind (arith, nat_tests, used_under)
-
--- what is in use above a higher cursor was in use
-pub used_before : (q addr n : ℕ) → (chunks : List Chunk) → cursor_of chunks ≤ q
-    → IsTrue (is_range_used (with_newest_cursor q chunks) addr n)
-    → IsTrue (is_range_used chunks addr n)
-used_before q addr n chunks higher used = grind (arith, nat_tests)
 
 pub used_part : (addr n a k : ℕ) → (chunks : List Chunk) → addr ≤ a → a + k ≤ addr + n → IsTrue (is_range_used chunks addr n)
     → IsTrue (is_range_used chunks a k)

@@ -6,6 +6,7 @@ ghost use Rattle.arena_rules.specs.Asking.{HasGrown, AsksWithin, IsRefusedBySour
 
 /// Without a call nothing is asked for. What stays within a number of bytes stays within a larger one, and two calls
 /// within a bound are together within it.
+#[tactic(auto, using(crate::proofs::AskingLemmas::asked_laws))]
 pub fn asked_together()
     ensures nothing { (bytes : ℕ) (state : State) (source : Source) → AsksWithin bytes state state source source }
     ensures more { (few many : ℕ) (old new : State) (before after : Source) → few ≤ many
@@ -18,6 +19,7 @@ pub fn asked_together()
 /// A call is starved if its source refused whenever the newest data end was at or below `far`. A starved call is also
 /// starved for any lower limit. With earlier calls counted in, the limit is lower by 2^61, and a refusal in the last
 /// call is one of all of them together.
+#[tactic(auto, using(crate::proofs::AskingLemmas::starved_laws))]
 pub fn starved_together()
     ensures by { (far : ℕ) (old new : State) (before after : Source) → old.is_growing ≡ true
         → (top_of old.chunks ≤ far → IsRefusedBySource before after) → IsStarved far old new before after }

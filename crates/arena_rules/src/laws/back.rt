@@ -7,6 +7,7 @@ ghost use Rattle.arena_rules.specs.Back.{Point, mark_of, back, accepts, KeepsMar
 
 /// Going back to an accepted mark takes a valid state to a valid one, and brings nothing into use. Chunks that double
 /// still do. A valid state accepts its own mark, and going back to it at once changes nothing.
+#[tactic(auto, using(crate::proofs::BackLemmas::back_laws))]
 pub fn sent_back()
     ensures valid { (mark : Point) (state : State) → IsValid state → IsTrue (accepts mark state)
         → IsValid (back mark state) }

@@ -11,6 +11,7 @@ ghost use Rattle.arena_rules.specs.declared.place.Place.{Place};
 
 /// An allocation has a step for each number of refusals that can occur, and for no other: for 0 where there is a place,
 /// and otherwise for each number up to that of the chunks to ask for, which is at most 64.
+#[tactic(auto, using(crate::proofs::NewBlockLemmas::refusal_laws))]
 pub fn refusals()
     ensures in_place { (state : State) (size align p k : ℕ) → place state size align ≡ Some p
         → IsSome (alloc state size align k) ↔ (k ≡ 0) }
@@ -78,6 +79,7 @@ pub fn moved_block()
 /// Giving a block back moves the cursor if the block is at it, and changes nothing else. Whatever is in use apart from
 /// the padded block (its end rounded up to the least alignment) stays in use, and nothing comes into use. Giving back
 /// an empty block changes nothing.
+#[tactic(auto, using(crate::proofs::ReturnLemmas::return_laws, crate::proofs::ReturnLemmas::dealloc_elsewhere))]
 pub fn given_back()
     ensures min_align { (state : State) (p size : ℕ) → (dealloc state p size).min_align ≡ state.min_align }
     ensures is_growing { (state : State) (p size : ℕ) → (dealloc state p size).is_growing ≡ state.is_growing }
@@ -105,6 +107,7 @@ pub fn first_states()
 {}
 
 /// A reset leaves nothing in use, keeps the newest chunk alone, and adds 1 to the generation if it is below 2 ^ 64 − 1.
+#[tactic(auto, using(std::proofs::lemmas::Bool::Decides::nat_tests))]
 pub fn all_given_back()
     ensures min_align { (state : State) → (reset state).min_align ≡ state.min_align }
     ensures is_growing { (state : State) → (reset state).is_growing ≡ state.is_growing }

@@ -5,6 +5,7 @@ ghost use Rattle.arena_rules.specs.Rounding.{down, up, is_power};
 ghost use Rattle.arena_rules.specs.Search.{power_at_least, halves};
 
 /// Rounding down gives the greatest multiple at or below a number, and rounding up the least at or above it.
+#[tactic(auto, using(crate::proofs::RoundingLemmas::rounding_laws))]
 pub fn rounding()
     ensures down_multiple { (n d : ℕ) → 0 < d → down n d % d ≡ 0 }
     ensures down_below { (n d : ℕ) → 0 < d → down n d ≤ n }
@@ -16,6 +17,7 @@ pub fn rounding()
 
 /// For numbers of 64 bits the test finds exactly the powers of two, and doubling 1 as often as needed, at most 64
 /// times, gives the least power of two at or above a number.
+#[tactic(auto, using(crate::proofs::RoundingLemmas::power_tested, crate::proofs::SizeLemmas::power_laws))]
 pub fn powers()
     ensures tested { (n : ℕ) → n < 2 ^ 64 → IsTrue (is_power n) ↔ IsPowerOfTwo n }
     ensures power { (n : ℕ) → n ≤ 2 ^ 64 → IsPowerOfTwo (power_at_least n) }
@@ -25,6 +27,7 @@ pub fn powers()
 
 /// The sizes that are tried start with a 64-bit number, and each is followed by its half, until one is below the least
 /// size: the limit of 64 sizes cuts none off.
+#[tactic(auto, using(crate::proofs::SearchLemmas::halves_more, crate::proofs::SearchLemmas::halves_none))]
 pub fn tried_sizes()
     ensures goes_on { (n least : ℕ) → n < 2 ^ 64 → 0 < least → least ≤ n
         → halves 64 n least ≡ n ∷ halves 64 (n / 2) least }

@@ -9,6 +9,7 @@ ghost use Rattle.arena_rules.specs.declared.place.Place.{Place};
 
 /// A block that grows in place moves down, and the used bytes rise by that distance. Otherwise the block is allocated
 /// again, or the call is refused and the number of used bytes doesn't change.
+#[tactic(auto, using(crate::proofs::UsedResizeLemmas::grow_laws), unfolding(crate::specs::Moves::grow))]
 pub fn used_by_grow()
     ensures grown { (state : State) (block : Place) (size align k q : ℕ) (outcome : Outcome) → IsValid state
         → GrowsTo state block size align q → grow_block state block size align k ≡ Some outcome
@@ -28,6 +29,7 @@ pub fn used_by_grow()
 /// the block) plus less than a unit (for its place), where the unit is the greater of the block's alignment and the
 /// least one. It is no larger if the block is aligned, its new size is a multiple of the least alignment, and it grows
 /// by whole units.
+#[tactic(auto, using(crate::proofs::UsedResizeLemmas::grow_laws))]
 pub fn moved_down()
     ensures takes { (state : State) (block : Place) (size align q : ℕ) → IsValid state
         → GrowsTo state block size align q
@@ -53,6 +55,7 @@ pub fn moved_down()
 
 /// A block that shrinks in place, and is in use or empty, moves up, and the used bytes fall by that distance. Otherwise
 /// it stays and the number of used bytes doesn't change, or it is allocated again.
+#[tactic(auto, using(crate::proofs::UsedResizeLemmas::shrink_laws), unfolding(crate::specs::Moves::shrink))]
 pub fn used_by_shrink()
     ensures shrunk { (state : State) (block : Place) (size align k q : ℕ) (outcome : Outcome) → IsValid state
         → IsTrue (is_place_used state block) → ShrinksTo state block size align q
@@ -72,6 +75,7 @@ pub fn used_by_shrink()
 /// How far a block that shrinks in place moves up: by at least half of its size. The distance is at most the difference
 /// of the sizes, and smaller by less than a unit, where the unit is the greater of the new alignment and the least one.
 /// It is no smaller if the block shrinks by whole units.
+#[tactic(auto, using(crate::proofs::UsedResizeLemmas::shrink_laws))]
 pub fn moved_up()
     ensures higher { (state : State) (block : Place) (size align q : ℕ) → ShrinksTo state block size align q
         → block.addr ≤ q }

@@ -12,6 +12,7 @@ ghost use Rattle.arena_rules.specs.declared.place.Place.{Place};
 
 /// Below a cursor, a size takes at least itself, and less than a unit more, to reach a multiple of the unit. From a
 /// multiple, a whole number of units takes exactly its size.
+#[tactic(auto, using(crate::proofs::RoundingLemmas::rounding_laws, crate::proofs::UsedBytesLemmas::taken_exact))]
 pub fn taken_bytes()
     ensures least { (cursor size unit : ℕ) → size ≤ cursor → size ≤ taken cursor size unit }
     ensures most { (cursor size unit : ℕ) → 0 < unit → size ≤ cursor
@@ -24,6 +25,7 @@ pub fn taken_bytes()
 /// greater of its alignment and the least one. It takes exactly its size if that is a whole number of units, and the
 /// cursor is a multiple of the unit, or the chunk is new and the alignment at most 16. A call that fails doesn't change
 /// the number of used bytes.
+#[tactic(auto, using(crate::proofs::UsedBytesLemmas::used_laws))]
 pub fn used_by_alloc()
     ensures takes { (state new : State) (size align k p : ℕ) → IsValid state → IsTrue (is_layout size align)
         → alloc state size align k ≡ Some (record { answer = Some p; state = new })
@@ -53,6 +55,7 @@ pub fn used_by_alloc()
 /// A block at the cursor that is given back frees its size up to the next multiple of the least alignment: its size,
 /// and less than the least alignment more. Any other frees nothing. Setting the cursor higher lowers the number of used
 /// bytes by the distance, and setting it lower raises it.
+#[tactic(auto, using(crate::proofs::UsedResizeLemmas::dealloc_laws))]
 pub fn used_by_dealloc()
     ensures last { (state : State) (block : Place) → IsValid state → IsTrue (is_place_used state block)
         → block.addr ≡ cursor_of state.chunks
@@ -69,6 +72,7 @@ pub fn used_by_dealloc()
 {}
 
 /// Addresses in use are at least 4096, and end at or below the newest chunk's data end. All are below 2 ^ 64.
+#[tactic(auto, using(crate::proofs::UsedLemmas::used_low, crate::proofs::UsedLemmas::used_high, crate::proofs::CursorLemmas::top_le))]
 pub fn used_addresses()
     ensures low { (state : State) (addr n : ℕ) → IsValid state → 0 < n
         → IsTrue (is_range_used state.chunks addr n)
@@ -82,6 +86,7 @@ pub fn used_addresses()
 {}
 
 /// A new arena has no byte in use.
+#[tactic(auto, using(crate::proofs::CreationLemmas::created_unused))]
 pub fn unused_at_first()
     ensures growing { (m : ℕ) → used_bytes (empty_state m) ≡ 0 }
     ensures with_capacity { (m capacity k : ℕ) (state : State) → create m capacity k ≡ Some (Some state)
@@ -90,6 +95,7 @@ pub fn unused_at_first()
 {}
 
 /// The used bytes are at most those of the chunks, which are between 4096 and the last address.
+#[tactic(auto, using(crate::proofs::UsedBytesLemmas::used_within, crate::proofs::UsedBytesLemmas::allocated_within))]
 pub fn bytes_within()
     ensures used { (state : State) → IsValid state → used_bytes state ≤ allocated_bytes state }
     ensures allocated { (state : State) → IsValid state → allocated_bytes state + 4096 < 2 ^ 64 }

@@ -10,10 +10,8 @@ pub returns : goal.returns
 returns c = record {
   by_alloc = λ state size align k outcome valid layout. alloc_valid state size align k outcome valid (layout_power size align layout);
   by_dealloc = dealloc_valid;
-  by_shrink = λ state block size align k outcome valid used layout.
-      shrink_valid state block size align k outcome valid used (layout_power size align layout);
-  by_grow = λ state block size align k outcome valid layout.
-      grow_valid state block size align k outcome valid (layout_power size align layout);
+  by_shrink = λ state block size align k _ valid used fits. shrink_valid _ block _ align k _ valid used (layout_power size align fits);
+  by_grow = λ state block size align k _ valid fits. grow_valid _ block _ align k _ valid (layout_power size align fits);
   by_reset = reset_valid;
   by_set_cursor = set_cursor_valid;
 }
