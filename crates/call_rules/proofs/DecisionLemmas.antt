@@ -1,8 +1,10 @@
 -- All bytes have a reading: of each line it is decided whether it is a call.
-use Rattle.std.proofs.Common.{◌≡◌, ℕ, ◌+◌, ◌<◌, ◌^◌, List, [], ◌∷◌, ◌++◌, inl, inr, refl, sym, ap, ◌∙◌, subst, arith, Ok, Err}
-use Rattle.std.specs.Prelude.{Result, ◌⊎◌}
+use Rattle.std.proofs.Common.{◌≡◌, ℕ, ◌+◌, ◌<◌, ◌^◌, Bool, true, false, List, [], ◌∷◌, ◌++◌, inl, inr, refl, ap, ◌∙◌, arith, Ok, Err}
+use Rattle.std.specs.Prelude.{Result, ◌⊎◌, nat_eq, nat_lt}
+use Rattle.std.specs.Bool.{Decides}
 use Rattle.std.specs.List.{AllByRecursion}
-use Rattle.std.proofs.lemmas.Bool.{cases_lt, cases_eq}
+use Rattle.std.specs.Cmp.Lexicographic.{pointwise, bytes_decides}
+use Rattle.std.proofs.lemmas.Bool.Decides.{Decides-ltb, not_from_Decides}
 use Rattle.call_rules.specs.Grammar.{call_line, IsByte, Fits, IsCall, AreCalls, IsFirstRefused, CallsOf, lines_of}
 use Rattle.call_rules.specs.declared.calls.Call.{Call}
 use Rattle.call_rules.specs.declared.calls.Call.TheVariants.{Alloc, Grow, Shrink, Dealloc, Write, Read, Mark, Back}
@@ -10,6 +12,11 @@ use Rattle.call_rules.proofs.ReadingLemmas.{read_call, read_call_back}
 
 abbrev pub Decided : Type 0 → Type 0
 Decided P = P ⊎ (P → ⊥)
+
+-- what a test decides
+tested : {P : Type 0} (r : Bool) → Decides r P → Decided P
+tested true d = inl (d.0 refl)
+tested false d = inr (not_from_Decides false d refl)
 
 pub both : {P Q : Type 0} → Decided P → Decided Q → Decided (P × Q)
 both (inl p) (inl q) = inl (p, q)
@@ -21,104 +28,85 @@ turned : {P Q : Type 0} → (P → Q) → (Q → P) → Decided P → Decided Q
 turned to back (inl p) = inl (to p)
 turned to back (inr none) = inr (λ q. none (back q))
 
+three : {P Q R : Type 0} → Decided P → Decided Q → Decided R → Decided (P × Q × R)
+three p q r = turned (λ h. (h.0, h.1.0, h.1.1)) (λ h. (h.0, (h.1, h.2))) (both p (both q r))
+
+four : {P Q R S : Type 0} → Decided P → Decided Q → Decided R → Decided S → Decided (P × Q × R × S)
+four p q r s = turned (λ h. (h.0.0, h.0.1, h.1.0, h.1.1)) (λ h. ((h.0, h.1), (h.2, h.3))) (both (both p q) (both r s))
+
 pub below : (n m : ℕ) → Decided (n < m)
-below n m = elim (cases_lt n m) [ inl low ↦ inl low | inr high ↦ inr (λ low. omega arith) ]
+below n m = tested (nat_lt n m) (Decides-ltb n m)
 
 pub are_bytes : (bytes : List ℕ) → Decided (AllByRecursion IsByte bytes)
 are_bytes [] = inl tt
 are_bytes (b ∷ bytes) = both (below b (2 ^ 8)) (are_bytes bytes)
 
-three_fit : (name size align : ℕ) → Decided ((name < 2 ^ 32) × (size < 2 ^ 64) × (align < 2 ^ 64))
-three_fit name size align = turned (λ h. (h.0, h.1.0, h.1.1)) (λ h. (h.0, (h.1, h.2)))
-    (both (below name (2 ^ 32)) (both (below size (2 ^ 64)) (below align (2 ^ 64))))
-
-four_fit : (name size align fill : ℕ) → Decided ((name < 2 ^ 32) × (size < 2 ^ 64) × (align < 2 ^ 64) × (fill < 2 ^ 8))
-four_fit name size align fill = turned (λ h. (h.0.0, h.0.1, h.0.2, h.1)) (λ h. ((h.0, h.1, h.2), h.3))
-    (both (three_fit name size align) (below fill (2 ^ 8)))
-
 fits : (call : Call) → Decided (Fits call)
-fits (Alloc name size align fill) = four_fit name size align fill
-fits (Grow name size align fill) = four_fit name size align fill
-fits (Shrink name size align) = three_fit name size align
+fits (Alloc name size align fill) = four (below name (2 ^ 32)) (below size (2 ^ 64)) (below align (2 ^ 64)) (below fill (2 ^ 8))
+fits (Grow name size align fill) = four (below name (2 ^ 32)) (below size (2 ^ 64)) (below align (2 ^ 64)) (below fill (2 ^ 8))
+fits (Shrink name size align) = three (below name (2 ^ 32)) (below size (2 ^ 64)) (below align (2 ^ 64))
 fits (Dealloc name) = below name (2 ^ 32)
-fits (Write name at bytes) = turned (λ h. (h.0, h.1.0, h.1.1)) (λ h. (h.0, (h.1, h.2)))
-    (both (below name (2 ^ 32)) (both (below at (2 ^ 64)) (are_bytes bytes)))
+fits (Write name at bytes) = three (below name (2 ^ 32)) (below at (2 ^ 64)) (are_bytes bytes)
 fits (Read name) = below name (2 ^ 32)
 fits (Mark name) = below name (2 ^ 32)
 fits (Back name) = below name (2 ^ 32)
 fits _ = inl tt
 
 pub same : (xs ys : List ℕ) → Decided (xs ≡ ys)
-same [] [] = inl refl
-same [] (y ∷ ys) = inr (λ e. cc)
-same (x ∷ xs) [] = inr (λ e. cc)
-same (x ∷ xs) (y ∷ ys) = elim (cases_eq x y) [
-  | inl first ↦ elim (same xs ys) [ inl more ↦ inl (cc) | inr none ↦ inr (λ e. let more : xs ≡ ys = cc in none more) ]
-  | inr none ↦ inr (λ e. let first : x ≡ y = cc in none first)
-]
+same xs ys = tested (pointwise nat_eq xs ys) (bytes_decides xs ys)
 
 -- a line is a call, or none is
-decided_call : (line : List ℕ) → ((call : Call) × IsCall line call) ⊎ ((call : Call) → IsCall line call → ⊥)
-decided_call line = go (fits (read_call (line ++ 10 ∷ []))) (same line (call_line (read_call (line ++ 10 ∷ []))))
-  where
-    is_read : (call : Call) → IsCall line call → read_call (line ++ 10 ∷ []) ≡ call
-    is_read call is = ap (λ text. read_call (text ++ 10 ∷ [])) is.text ∙ read_call_back call is.fits
-
-    go : Decided (Fits (read_call (line ++ 10 ∷ []))) → Decided (line ≡ call_line (read_call (line ++ 10 ∷ [])))
-        → ((call : Call) × IsCall line call) ⊎ ((call : Call) → IsCall line call → ⊥)
-    go (inl fit) (inl text) = inl (read_call (line ++ 10 ∷ []), record { fits = fit; text = text })
-    go (inr none) text = inr (λ call is. none (subst Fits (sym (is_read call is)) is.fits))
-    go fit (inr none) = inr (λ call is. none (is.text ∙ ap call_line (sym (is_read call is))))
+decided_call : (line : List ℕ) → Decided ((call : Call) × IsCall line call)
+decided_call line =
+    let read = read_call (line ++ 10 ∷ []) in
+    turned (λ h. (read, record { fits = h.0; text = h.1 }))
+    (λ h. let same : read ≡ h.0 = ap (λ text. read_call (text ++ 10 ∷ [])) h.1.text ∙ read_call_back h.0 h.1.fits in
+    (rw same h.1.fits, rw same h.1.text)) (both (fits read) (same line (call_line read)))
 
 abbrev IsRead : List (List ℕ) → Type 0
 IsRead lines = ((calls : List Call) × AreCalls lines calls) ⊎ ((n : ℕ) × IsFirstRefused lines n)
 
 -- a line that isn't refused, in front of other lines
-behind_good : (line : List ℕ) (lines : List (List ℕ)) (n : ℕ)
+behind_good : (line : List ℕ) (lines : List (List ℕ))
     → ((calls : List Call) (before : List (List ℕ)) → AreCalls before calls → (more : List Call) × AreCalls (line ∷ before) more)
-    → IsFirstRefused lines n → IsFirstRefused (line ∷ lines) (n + 1)
-behind_good line lines n good r =
-    let number = r.number in
+    → IsRead lines → IsRead (line ∷ lines)
+behind_good line lines good (inl read) = inl (good read.0 lines read.1)
+behind_good line lines good (inr refused) =
+    let r = refused.1 in
     let front = good r.calls r.before r.good in
-    record {
-      before = line ∷ r.before;
-      calls = front.0;
-      line = r.line;
-      after = r.after;
-      all = ap (λ ls. line ∷ ls) r.all;
-      number = omega arith;
-      good = front.1;
-      bad = r.bad;
-    }
+    inr (
+      refused.0 + 1,
+      record {
+        before = line ∷ r.before;
+        calls = front.0;
+        line = r.line;
+        after = r.after;
+        all = ap (λ ls. line ∷ ls) r.all;
+        number = omega (arith, r.number);
+        good = front.1;
+        bad = r.bad;
+      },
+    )
 
 read_lines : (lines : List (List ℕ)) → IsRead lines
 read_lines [] = inl ([], tt)
-read_lines ([] ∷ lines) = elim (read_lines lines) [
-  | inl read ↦ inl read
-  | inr refused ↦ inr (refused.0 + 1, behind_good [] lines refused.0 (λ calls before are. (calls, are)) refused.1)
+read_lines ([] ∷ lines) = behind_good [] lines (λ calls before are. (calls, are)) (read_lines lines)
+read_lines ((b ∷ line) ∷ lines) = elim (decided_call (b ∷ line)) [
+  | inl first ↦ behind_good (b ∷ line) lines (λ calls before are. (first.0 ∷ calls, (first.1, are))) (read_lines lines)
+  | inr none ↦ inr (
+    1,
+    record {
+      before = [];
+      calls = [];
+      line = b ∷ line;
+      after = lines;
+      all = refl;
+      number = refl;
+      good = tt;
+      bad = record { some = λ e. cc; none = λ call is. none (call, is) };
+    },
+  )
 ]
-read_lines ((b ∷ line) ∷ lines) = go (decided_call (b ∷ line)) (read_lines lines)
-  where
-    go : ((call : Call) × IsCall (b ∷ line) call) ⊎ ((call : Call) → IsCall (b ∷ line) call → ⊥) → IsRead lines
-        → IsRead ((b ∷ line) ∷ lines)
-    go (inl first) (inl read) = inl (first.0 ∷ read.0, (first.1, read.1))
-    go (inl first) (inr refused) = inr (
-      refused.0 + 1,
-      behind_good (b ∷ line) lines refused.0 (λ calls before are. (first.0 ∷ calls, (first.1, are))) refused.1,
-    )
-    go (inr none) more = inr (
-      1,
-      record {
-        before = [];
-        calls = [];
-        line = b ∷ line;
-        after = lines;
-        all = refl;
-        number = refl;
-        good = tt;
-        bad = record { some = λ e. cc; none = none };
-      },
-    )
 
 pub some_reading : (bytes : List ℕ) → (r : Result (List Call) ℕ) × CallsOf bytes r
 some_reading bytes = elim (read_lines (lines_of bytes)) [ inl read ↦ (Ok read.0, read.1) | inr refused ↦ (Err refused.0, refused.1) ]

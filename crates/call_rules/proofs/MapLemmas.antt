@@ -1,10 +1,9 @@
 -- A map in a tree as a finite map.
-use Rattle.std.proofs.Common.{◌≡◌, ℕ, ap, sym, subst, refl, ◌∙◌, arith, List, [], ◌∷◌, Bool, cond, Option, Some, None, Less, IsTrue, T}
-use Rattle.std.specs.Prelude.{◌==◌}
+use Rattle.std.proofs.Common.{◌≡◌, ℕ, ap, sym, subst, refl, ◌∙◌, arith, List, [], ◌∷◌, cond, Option, Some, None, Less, IsTrue, T}
 use Rattle.std.specs.Ordering.{nat_cmp, eq_by_cmp}
 use Rattle.std.specs.Cmp.{unsigned_tied, nat_cmp_total}
 use Rattle.std.specs.FinMap as map
-use Rattle.std.specs.FinMap.{find, is_sorted, get-from_entries, get-from_sorted, entries-from_sorted, get-insert, get-remove, same_map, nat_cmp-IsAntisymmetric}
+use Rattle.std.specs.FinMap.{find, is_sorted, get-from_entries, get-from_sorted, entries-from_sorted, same_map, nat_cmp-IsAntisymmetric}
 use Rattle.std.specs.FinMap.Entries.{below_all}
 use Rattle.std.specs.List.{AllByRecursion}
 use Rattle.std.specs.List.Sorted.{IsStrictlySortedBy}
@@ -12,12 +11,7 @@ use Rattle.std.specs.Map.{keys_of}
 use Rattle.std.specs.Map.{lookup}
 use Rattle.std.specs.BTreeMap.{is_at, get, Updates, BTreeMap}
 use Rattle.std.proofs.lemmas.Bool.Decides.{nat_tests}
-
-same_test : (x y : ℕ) → (x == y) ≡ (y == x)
-same_test x y = grind (arith, nat_tests)
-
-test_turned : (x y : ℕ) → eq_by_cmp nat_cmp x y ≡ eq_by_cmp nat_cmp y x
-test_turned x y = unsigned_tied x y ∙ same_test x y ∙ sym (unsigned_tied y x)
+use Rattle.call_rules.proofs.HeldLemmas.{same, after_insert, after_remove}
 
 module _ {X : Type 0} where
   found : (q : ℕ) (es : List (ℕ × X)) → find nat_cmp q es ≡ lookup (is_at (nat_cmp q)) es
@@ -30,17 +24,11 @@ module _ {X : Type 0} where
 
   pub tree_insert : (m n : BTreeMap ℕ X) (k : ℕ) (v : X) → Updates nat_cmp m n k (Some v)
       → map.from_entries {R = nat_cmp} n.entries ≡ map.insert (map.from_entries m.entries) k v
-  tree_insert m n k v updates = same_map nat_cmp_total nat_cmp-IsAntisymmetric _ _ (λ q.
-      tree_get n q ∙ updates.0 q ∙ ap (λ (b : Bool). cond b (Some v) (get nat_cmp m q)) (test_turned k q)
-      ∙ ap (λ (o : Option X). cond (eq_by_cmp nat_cmp q k) (Some v) o) (sym (tree_get m q))
-      ∙ sym (get-insert nat_cmp_total (map.from_entries {R = nat_cmp} m.entries) k v q))
+  tree_insert m n k v updates = same _ _ (λ q. grind (arith, nat_tests, tree_get n q, tree_get m q, updates.0 q, unsigned_tied k q, after_insert (map.from_entries {R = nat_cmp} m.entries) k v q))
 
   pub tree_remove : (m n : BTreeMap ℕ X) (k : ℕ) → Updates nat_cmp m n k None
       → map.from_entries {R = nat_cmp} n.entries ≡ map.remove (map.from_entries m.entries) k
-  tree_remove m n k updates = same_map nat_cmp_total nat_cmp-IsAntisymmetric _ _ (λ q.
-      tree_get n q ∙ updates.0 q ∙ ap (λ (b : Bool). cond b None (get nat_cmp m q)) (test_turned k q)
-      ∙ ap (λ (o : Option X). cond (eq_by_cmp nat_cmp q k) None o) (sym (tree_get m q))
-      ∙ sym (get-remove nat_cmp_total (map.from_entries {R = nat_cmp} m.entries) k q))
+  tree_remove m n k updates = same _ _ (λ q. grind (arith, nat_tests, tree_get n q, tree_get m q, updates.0 q, unsigned_tied k q, after_remove (map.from_entries {R = nat_cmp} m.entries) k q))
 
   below : (k : ℕ) (es : List (ℕ × X)) → AllByRecursion (λ y. nat_cmp k y ≡ Less) (keys_of es) → IsTrue (below_all nat_cmp k es)
   below k [] all = refl

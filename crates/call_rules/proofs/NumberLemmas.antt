@@ -1,5 +1,5 @@
 -- The decimal digits of a number.
-use Rattle.std.proofs.Common.{◌≡◌, ℕ, zero, suc, ◌+◌, ◌-◌, ◌*◌, ◌/◌, ◌%◌, ◌^◌, ◌<◌, ◌≤◌, true, false, List, [], ◌∷◌, ◌++◌, length, length-append, get_or, inl, inr, refl, sym, ap, ◌∙◌, subst, arith, append_assoc}
+use Rattle.std.proofs.Common.{◌≡◌, ℕ, zero, suc, ◌+◌, ◌-◌, ◌*◌, ◌/◌, ◌%◌, ◌^◌, ◌<◌, ◌≤◌, true, false, List, [], ◌∷◌, ◌++◌, length, length-append, get_or, inl, inr, refl, sym, ap, ◌∙◌, arith, append_assoc}
 use Rattle.std.specs.Prelude.{nat_lt, if◌then◌else◌}
 use Rattle.std.specs.Char.{is_ascii_digit}
 use Rattle.std.specs.Str.{all_ascii_digits}
@@ -9,24 +9,18 @@ use Rattle.std.proofs.lemmas.Bool.{cases_lt}
 use Rattle.std.proofs.lemmas.Bool.Decides.{nat_tests}
 use Rattle.call_rules.specs.Grammar.{digits, number}
 
-digits_one : (k n : ℕ) → n < 10 → digits (suc k) n ≡ (48 + n) ∷ []
-unfolding digits
-digits_one k n h = let test : nat_lt n 10 ≡ true = grind (arith, nat_tests) in rw (test, digits)
-
-digits_more : (k n : ℕ) → 10 ≤ n → digits (suc k) n ≡ digits k (n / 10) ++ (48 + n % 10) ∷ []
-unfolding digits
-digits_more k n h = let test : nat_lt n 10 ≡ false = grind (arith, nat_tests) in rw (test, digits)
-
 -- A property that holds for one digit, and for one digit more, holds for each number and its digits.
 module _
     (P : ℕ → List ℕ → Type 0)
     (one : (n : ℕ) → n < 10 → P n ((48 + n) ∷ []))
     (more : (n : ℕ) (ds : List ℕ) → 10 ≤ n → P (n / 10) ds → P n (ds ++ (48 + n % 10) ∷ [])) where
   digits_by_steps : (k n : ℕ) → n < k → P n (digits k n)
+  unfolding digits
   digits_by_steps zero n h = absurd (omega arith)
   digits_by_steps (suc k) n h = elim (cases_lt n 10) [
-    | inl low ↦ subst (P n) (sym (digits_one k n low)) (one n low)
-    | inr high ↦ subst (P n) (sym (digits_more k n high)) (more n (digits k (n / 10)) high (digits_by_steps k (n / 10) (omega arith)))
+    | inl low ↦ let test : nat_lt n 10 ≡ true = grind (arith, nat_tests) in rw (test, digits) (one n low)
+    | inr high ↦ let test : nat_lt n 10 ≡ false = grind (arith, nat_tests) in
+        rw (test, digits) (more n (digits k (n / 10)) high (digits_by_steps k (n / 10) (omega arith)))
   ]
 
   pub number_by_steps : (n : ℕ) → P n (number n)

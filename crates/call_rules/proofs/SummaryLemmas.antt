@@ -22,10 +22,6 @@ read_line word m n more rest e =
 abbrev eight : ℕ → ℕ → ℕ → ℕ → ℕ → ℕ → ℕ → ℕ → Summary
 eight c p f o n s u l = record { calls = c; placed = p; failed = f; other = o; bytes = n; byte_sum = s; used = u; allocated = l }
 
-same_numbers : {c d p q f g o t n m s z u v l k : ℕ} → c ≡ d → p ≡ q → f ≡ g → o ≡ t → n ≡ m → s ≡ z → u ≡ v → l ≡ k
-    → eight c p f o n s u l ≡ eight d q g t m z v k
-same_numbers ec ep ef eo en es eu el = cc
-
 pub same_summary : (a b : Summary) → summary_text a ≡ summary_text b → a ≡ b
 same_summary a b e =
     let calls = read_line (codes "calls") a.calls b.calls _ _ e in
@@ -36,4 +32,4 @@ same_summary a b e =
     let byte_sum = read_line (codes "sum") a.byte_sum b.byte_sum _ _ bytes.1 in
     let used = read_line (codes "used") a.used b.used _ _ byte_sum.1 in
     let allocated = read_line (codes "allocated") a.allocated b.allocated [] [] used.1 in
-    same_numbers calls.0 placed.0 failed.0 other.0 bytes.0 byte_sum.0 used.0 allocated.0
+    λ i. eight (calls.0 i) (placed.0 i) (failed.0 i) (other.0 i) (bytes.0 i) (byte_sum.0 i) (used.0 i) (allocated.0 i)

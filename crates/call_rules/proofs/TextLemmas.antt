@@ -46,8 +46,7 @@ read_reply_back r rest h = ap read_reply (append_assoc (reply_line r) (10 ∷ []
 
 not_empty : (r : Reply) (rest : List ℕ) → [] ≡ with_feed (reply_line r) ++ rest → ⊥
 not_empty r rest e =
-    let same : 0 ≡ length (with_feed (reply_line r) ++ rest) = ap length e in
-    omega (arith, same, length-append (with_feed (reply_line r)) rest, length-append (reply_line r) (10 ∷ []))
+    omega (arith, ap length e, length-append (with_feed (reply_line r)) rest, length-append (reply_line r) (10 ∷ []))
 
 pub same_replies : (a b : List Reply) → AllByRecursion HasBytes a → AllByRecursion HasBytes b → text_of a ≡ text_of b → a ≡ b
 same_replies [] [] h g e = refl
@@ -56,6 +55,4 @@ same_replies (r ∷ a) [] h g e = absurd (not_empty r (text_of a) (sym e))
 same_replies (r ∷ a) (s ∷ b) h g e =
     let read : ◌≡◌ {A = Reply × List ℕ} (r, 10 ∷ text_of a) (s, 10 ∷ text_of b)
     = sym (read_reply_back r (text_of a) h.0) ∙ ap read_reply e ∙ read_reply_back s (text_of b) g.0 in
-    let first : r ≡ s = ap (λ (p : Reply × List ℕ). p.0) read in
-    let more : a ≡ b = same_replies a b h.1 g.1 (ap (λ (p : Reply × List ℕ). drop 1 p.1) read) in
-    cc
+    λ i. (read i).0 ∷ same_replies a b h.1 g.1 (ap (λ (p : Reply × List ℕ). drop 1 p.1) read) i

@@ -1,11 +1,11 @@
-use Rattle.call_rules.proofs.GeneratorLemmas.{generated_count, generated_first, generated_fit}
+use Rattle.std.proofs.lemmas.List.FromFn.{take-map-range_with_len}
+use Rattle.call_rules.specs.Generator.{call_at, seed_before}
+use Rattle.call_rules.proofs.GeneratorLemmas.{generated_count, fit_from}
 use Rattle.call_rules.proofs.laws.generator.generated_calls.Goals as goal
 
-pub returns-clause-counted : goal.returns-clause-counted
-returns-clause-counted c = generated_count
-
-pub returns-clause-first : goal.returns-clause-first
-returns-clause-first c = generated_first
-
-pub returns-clause-fit : goal.returns-clause-fit
-returns-clause-fit c = generated_fit
+pub returns : goal.returns
+returns c = record {
+  counted = generated_count;
+  first = λ start count more within. take-map-range_with_len (λ i. call_at i (seed_before start i)) 0 more count within;
+  fit = λ start count. fit_from start 0 count;
+}

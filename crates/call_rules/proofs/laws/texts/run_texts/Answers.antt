@@ -1,11 +1,13 @@
-use Rattle.call_rules.proofs.ReplyByteLemmas.{calls_fit, replies_bytes, same_run_replies}
+use Rattle.call_rules.specs.Grammar.{lines_of}
+use Rattle.call_rules.proofs.ReplyByteLemmas.{lines_fit, replies_bytes}
+use Rattle.call_rules.proofs.TextLemmas.{same_replies}
 use Rattle.call_rules.proofs.laws.texts.run_texts.Goals as goal
 
-pub returns-clause-calls_fit : goal.returns-clause-calls_fit
-returns-clause-calls_fit c = calls_fit
-
-pub returns-clause-replies_have_bytes : goal.returns-clause-replies_have_bytes
-returns-clause-replies_have_bytes c = replies_bytes
-
-pub returns-clause-one_text : goal.returns-clause-one_text
-returns-clause-one_text c = same_run_replies
+pub returns : goal.returns
+returns c = record {
+  calls_fit = λ text. lines_fit (lines_of text);
+  replies_have_bytes = replies_bytes;
+  one_text = λ text other calls others state from ks js a b last end are other_are ran other_ran.
+      same_replies a b (replies_bytes state calls ks a last (lines_fit (lines_of text) calls are) ran)
+      (replies_bytes from others js b end (lines_fit (lines_of other) others other_are) other_ran);
+}

@@ -1,13 +1,10 @@
-use Rattle.std.proofs.Common.{arith, ap, ◌∙◌}
+use Rattle.std.proofs.Common.{arith}
 use Rattle.std.specs.Ordering.{nat_cmp}
-use Rattle.std.specs.FinMap as map
-use Rattle.call_rules.specs.Names.{named_with}
-use Rattle.call_rules.proofs.NameLemmas.{none_below}
+use Rattle.std.specs.FinMap.{get-empty}
 use Rattle.call_rules.proofs.names.Names.new.Goals as goal
 
 pub invariant_of-result : goal.invariant_of-result
-invariant_of-result g c = (omega (arith, c.new.ensures.len), rw c.new-2.ensures.empty (none_below 256))
+invariant_of-result g c = (omega (arith, c.new.ensures.len), λ name low. rw c.new-2.ensures.empty (get-empty nat_cmp name))
 
 pub returns : goal.returns
-returns g c = ap (λ xs. named_with 0 xs (map.from_entries c.new-2.result.entries)) c.new.ensures.items
-    ∙ ap (λ es. map.from_entries {R = nat_cmp} es) c.new-2.ensures.empty
+returns g c = rw (c.new.ensures.items, c.new-2.ensures.empty)
