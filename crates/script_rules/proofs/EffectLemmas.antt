@@ -1,5 +1,5 @@
 -- What a command gives: a well-formed object, which needs no more than what the name held and what the command costs.
-use Rattle.std.proofs.Common.{◌≡◌, ℕ, zero, suc, ◌==◌, ◌+◌, ◌-◌, ◌*◌, ◌<◌, ◌≤◌, min, refl, ap, ◌∙◌, arith, Bool, true, false, cond, not, ◌||◌, is_some, Some, None, Option, List, [], ◌∷◌, ◌++◌, length, length-append, length-take, length-set, slice_get, true≢false}
+use Rattle.std.proofs.Common.{◌≡◌, ℕ, zero, suc, ◌+◌, ◌-◌, ◌*◌, ◌<◌, ◌≤◌, min, refl, ap, arith, Bool, false, cond, not, ◌||◌, is_some, Some, None, Option, List, [], ◌∷◌, length, length-append, length-take, length-set, slice_get, true≢false}
 use Rattle.std.specs.Prelude.{nat_lt, nat_le, IfSome, if◌then◌else◌}
 use Rattle.std.specs.Ordering.{nat_cmp, eq_by_cmp}
 use Rattle.std.specs.List.{AllByRecursion, list_any}
@@ -8,16 +8,16 @@ use Rattle.std.proofs.lemmas.List.Edits.{length-insert, length-remove}
 use Rattle.std.proofs.lemmas.Option.{slice_get_within}
 use Rattle.arena_rules.specs.Bits.{Set, words_for}
 use Rattle.arena_rules.proofs.ListLemmas.{all_append}
-use Rattle.arena_rules.specs.PrintedBits.{highest, digits, lower, printed}
+use Rattle.arena_rules.specs.PrintedBits.{digits, lower, printed}
 use Rattle.call_rules.specs.Grammar.{IsByte}
-use Rattle.script_rules.specs.Objects.{Entries, get, bind, Bits, bits_end, has, Object, AList, AText, ASet, AMap, AValue, copy_cost, need_of, most_items, most_bytes, most_pairs, IsObject}
+use Rattle.script_rules.specs.Objects.{Entries, get, Bits, bits_end, has, Object, AList, AText, ASet, AMap, AValue, copy_cost, need_of, most_items, most_bytes, IsObject}
 use Rattle.script_rules.specs.Effects.{Effect, Tells, Gives, LetsGo, held, free, a_list, a_text, a_set, a_map, a_value, unless, joins, at_index, binds, shown, length_reply, number_or_nothing, not_ascii, effect}
 use Rattle.script_rules.specs.Machine.{is_refusal}
 use Rattle.script_rules.specs.Outcomes.{IsPrintedByte, HasBytes}
 use Rattle.script_rules.specs.declared.commands.Command.{Command}
 use Rattle.script_rules.specs.declared.commands.Command.TheVariants.{MakeList, MakeText, MakeBits, MakeMap, MakeValue, Push, Insert, Pop, Remove, At, Put, Truncate, Byte, Front, Append, SetBit, UnsetBit, HasBit, Union, Ones, Bind, Find, Unbind, Load, Store, Len, Show, CopyTo, DropName}
 use Rattle.script_rules.specs.declared.commands.ScriptReply.{ScriptReply}
-use Rattle.script_rules.specs.declared.commands.ScriptReply.TheVariants.{Done, OutOfRange, NotAscii, CapacityOverflow}
+use Rattle.script_rules.specs.declared.commands.ScriptReply.TheVariants.{Done, OutOfRange, CapacityOverflow}
 use Rattle.script_rules.proofs.EntryLemmas.{all_filter, length_filter, all_bind, rising_bind, rising_unbind, length_bind, all_united, rising_united, need_held}
 
 abbrev pub HoldsObject : Option Object → Type 0
@@ -44,8 +44,7 @@ IsOld of name o = IsObject o × (need_held (of name) ≡ need_of o)
 
 module _ (of : ℕ → Option Object) where
   by_free : (name : ℕ) (o : Object) (cost : ℕ) → IsObject o → need_of o ≤ cost → Serves of (free (of name) (Gives name o Done cost))
-  by_free name o cost is paid =
-      elim (of name) as (λ x. Serves of (free x (Gives name o Done cost))) [ None ↦ (served_done, is, omega (arith, paid)) | Some p ↦ tt ]
+  by_free name o cost is paid = grind (arith, nat_tests, served_done)
 
   by_held : (name : ℕ) (go : Object → Effect) → HoldsObject (of name) → ((o : Object) → IsOld of name o → Serves of (go o))
       → Serves of (held (of name) go)
@@ -57,50 +56,39 @@ module _ (of : ℕ → Option Object) where
 
   by_list : (name : ℕ) (go : List ℕ → Effect) (o : Object) → IsOld of name o
       → ((items : List ℕ) → IsOld of name (AList items) → Serves of (go items)) → Serves of (a_list o go)
-  by_list name go (AList items) is f = f items is
-  by_list name go _ is f = tt
+  by_list name go o is f = grind (arith, nat_tests)
 
   by_text : (name : ℕ) (go : List ℕ → Effect) (o : Object) → IsOld of name o
       → ((bytes : List ℕ) → IsOld of name (AText bytes) → Serves of (go bytes)) → Serves of (a_text o go)
-  by_text name go (AText bytes) is f = f bytes is
-  by_text name go _ is f = tt
+  by_text name go o is f = grind (arith, nat_tests)
 
   by_set : (name : ℕ) (go : ℕ → Bits → Effect) (o : Object) → IsOld of name o
       → ((capacity : ℕ) (bits : Bits) → IsOld of name (ASet capacity bits) → Serves of (go capacity bits)) → Serves of (a_set o go)
-  by_set name go (ASet capacity bits) is f = f capacity bits is
-  by_set name go _ is f = tt
+  by_set name go o is f = grind (arith, nat_tests)
 
   by_map : (name : ℕ) (go : Entries ℕ → Effect) (o : Object) → IsOld of name o
       → ((pairs : Entries ℕ) → IsOld of name (AMap pairs) → Serves of (go pairs)) → Serves of (a_map o go)
-  by_map name go (AMap pairs) is f = f pairs is
-  by_map name go _ is f = tt
+  by_map name go o is f = grind (arith, nat_tests)
 
   by_value : (name : ℕ) (go : ℕ → Effect) (o : Object) → IsOld of name o
       → ((value : ℕ) → IsOld of name (AValue value) → Serves of (go value)) → Serves of (a_value o go)
-  by_value name go (AValue value) is f = f value is
-  by_value name go _ is f = tt
+  by_value name go o is f = grind (arith, nat_tests)
 
   by_unless : (test : Bool) (reply : ScriptReply) (e : Effect) → HasBytes reply → (test ≡ false → Serves of e)
       → Serves of (unless test reply e)
-  by_unless true reply e has f = has
-  by_unless false reply e has f = f refl
+  by_unless test reply e has f = grind (arith, nat_tests)
 
   by_index : (items : List ℕ) (i : ℕ) (go : ℕ → Effect) → ((n : ℕ) → i < length items → Serves of (go n))
       → Serves of (at_index (slice_get items i) go)
-  by_index items i go f = elim (slice_get items i) as (λ o. slice_get items i ≡ o → Serves of (at_index o go)) [
-    | None ↦ λ e. tt
-    | Some n ↦ λ e. f n (slice_get_within items i n e)
-  ] refl
+  by_index items i go f = grind (arith, nat_tests, slice_get, slice_get_within)
 
   by_copy : (name : ℕ) (o : Object) → IsObject o → Serves of (free (of name) (Gives name o Done (copy_cost o)))
-  by_copy name (AList items) is = by_free name _ _ is (omega arith)
-  by_copy name _ is = by_free name _ _ is (omega arith)
+  by_copy name o is = grind (arith, nat_tests, by_free)
 
 -- ---- Parts
 
 number_served : (o : Option ℕ) → IsServed (number_or_nothing o)
-number_served None = (refl, tt)
-number_served (Some n) = (refl, tt)
+number_served o = grind (arith, nat_tests)
 
 byte_of : (b : ℕ) → b < 128 → IsByte b
 byte_of b h = omega (arith, h)
@@ -112,8 +100,7 @@ all_bytes (b ∷ bytes) h = (byte_of b h.0, all_bytes bytes h.1)
 -- ---- Printed forms
 
 digit_printed : (b : Bool) → IsPrintedByte (if b then 49 else 48)
-digit_printed true = (λ e. omega (arith, e), λ e. omega (arith, e))
-digit_printed false = (λ e. omega (arith, e), λ e. omega (arith, e))
+digit_printed b = grind (arith, nat_tests)
 
 digits_printed : (set : Set) (from n : ℕ) → AllByRecursion IsPrintedByte (digits set from n)
 unfolding digits
@@ -131,25 +118,16 @@ lower_printed set (suc n) = (
 
 all_printed : (words : ℕ) (set : Set) → AllByRecursion IsPrintedByte (printed words set)
 unfolding printed
-all_printed words set =
-    let top = highest set (8 * words) in
-    elim (words == 0) as (λ b. AllByRecursion IsPrintedByte (if b then [] else digits set (8 * top) 8 ++ lower set top)) [
-      | true ↦ tt
-      | false ↦ all_append _ (digits set (8 * top) 8) (lower set top) (digits_printed set (8 * top) 8) (lower_printed set top)
-    ]
+all_printed words set = grind (arith, nat_tests, all_append, digits_printed, lower_printed)
 
 shown_bytes : (o : Object) → IsObject o → HasBytes (shown o)
-shown_bytes (AText bytes) is = all_bytes bytes is.0
-shown_bytes (ASet capacity bits) is = all_printed (words_for capacity) (has bits)
-shown_bytes _ is = tt
+shown_bytes o is = grind (arith, nat_tests, all_bytes, all_printed)
 
 length_bytes : (o : Object) → HasBytes (length_reply o)
-length_bytes (ASet capacity bits) = tt
-length_bytes _ = tt
+length_bytes o = grind (arith, nat_tests)
 
 none_of_two : (a b : Bool) → (a || b) ≡ false → (a ≡ false) × (b ≡ false)
-none_of_two true b h = absurd (true≢false h)
-none_of_two false b h = (refl, h)
+none_of_two a b h = grind (arith, nat_tests, true≢false)
 
 ascii : (b : ℕ) → not_ascii b ≡ false → b < 128
 ascii b h = grind (arith, nat_tests)
@@ -166,26 +144,11 @@ within a b h = grind (arith, nat_tests)
 
 by_joins : (of : ℕ → Option Object) (more : List ℕ) (len : ℕ) (go : Effect)
     → (AllByRecursion (λ b. b < 128) more → len + length more ≤ most_bytes → Serves of go) → Serves of (joins more len go)
-by_joins of more len go f = by_unless of (list_any not_ascii more) NotAscii _ tt (λ low.
-    by_unless of (nat_lt most_bytes (len + length more)) CapacityOverflow go tt
-    (λ room. f (all_ascii more low) (within most_bytes (len + length more) room)))
+by_joins of more len go f = grind (arith, nat_tests, by_unless, all_ascii, within)
 
 by_bind : (of : ℕ → Option Object) (name : ℕ) (pairs : Entries ℕ) (key value : ℕ) → IsOld of name (AMap pairs)
     → Serves of (binds name pairs key value (get pairs key))
-by_bind of name pairs key value is =
-    let old = is.1 in
-    let more = length_bind pairs key value is.0.1 in
-    let rising = rising_bind pairs key value is.0.1 in
-    elim (get pairs key) as (λ o. get pairs key ≡ o → Serves of (binds name pairs key value o)) [
-      | None ↦ λ e. by_unless of (nat_le most_pairs (length pairs)) CapacityOverflow _ tt (λ room.
-          let count : length (bind pairs key value) ≡ length pairs + 1 = more
-          ∙ ap (λ o. cond (is_some o) (length pairs) (length pairs + 1)) e in
-          ((refl, tt), (omega (arith, count, below most_pairs (length pairs) room), rising), omega (arith, count, old)))
-      | Some v ↦ λ e.
-          let count : length (bind pairs key value) ≡ length pairs = more
-          ∙ ap (λ o. cond (is_some o) (length pairs) (length pairs + 1)) e in
-          ((refl, tt), (omega (arith, count, is.0.0), rising), omega (arith, count, old))
-    ] refl
+by_bind of name pairs key value is = grind (arith, nat_tests, length_bind, rising_bind, by_unless, cond, is_some, below)
 
 -- ---- Each command
 

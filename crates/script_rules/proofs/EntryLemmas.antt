@@ -11,8 +11,7 @@ use Rattle.std.proofs.lemmas.Bool.Decides.{nat_tests}
 use Rattle.script_rules.specs.Objects.{Entries, total, get, bind, unbind, are_rising, Bits, united, Object, Objects, need_of, need}
 
 pub of_T : (b : Bool) → T b → IsTrue b
-of_T true h = refl
-of_T false h = absurd h
+of_T b h = grind (arith, nat_tests)
 
 pub to_T : (b : Bool) → IsTrue b → T b
 to_T b h = subst T (sym h) tt
@@ -87,8 +86,7 @@ abbrev pub need_held : Option Object → ℕ
 need_held o = option_map_or need_of o 0
 
 pub both_true : (a b : Bool) → IsTrue (a && b) → IsTrue a × IsTrue b
-both_true true b h = (refl, h)
-both_true false b h = absurd (subst T (sym h) tt)
+both_true a b h = grind (arith, nat_tests)
 
 -- a key below all others is not found
 pub none_below : {X : Type 0} (k m : ℕ) (es : Entries X) → k ≤ m → IsTrue (below_all nat_cmp m es) → get es k ≡ None

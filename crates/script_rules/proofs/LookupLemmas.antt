@@ -15,8 +15,7 @@ module _ {X : Type 0} where
   get_bind es k v q = find-put nat_cmp nat_cmp_total q k v es ∙ ap (λ b. cond b (Some v) (get es q)) (unsigned_tied q k)
 
   turned : (b : Bool) (o : Option X) → cond (not b) o None ≡ cond b None o
-  turned true o = refl
-  turned false o = refl
+  turned b o = grind (arith, nat_tests)
 
   pub get_unbind : (es : Entries X) (k q : ℕ) → get (unbind es k) q ≡ (if q == k then None else get es q)
   get_unbind es k q =

@@ -1,5 +1,6 @@
 -- Bytes have at most one reading.
-use Rattle.std.proofs.Common.{◌≡◌, ◌≢◌, ℕ, suc, ◌+◌, ◌⊎◌, inl, inr, List, [], ◌∷◌, ◌++◌, length, refl, sym, ap, ◌∙◌, subst, codes, Ok, Err}
+use Rattle.std.proofs.lemmas.Bool.Decides.{nat_tests}
+use Rattle.std.proofs.Common.{arith, ◌≡◌, ◌≢◌, ℕ, ◌⊎◌, inl, inr, List, [], ◌∷◌, ◌++◌, length, refl, sym, ap, ◌∙◌, subst, codes, Ok, Err}
 use Rattle.std.specs.Prelude.{Result}
 use Rattle.std.specs.List.{AllByRecursion, filter, flat_map}
 use Rattle.std.proofs.lemmas.List.Elements.{filter-append}
@@ -23,8 +24,7 @@ read_scripts_back scripts h =
 -- ---- Refused lines
 
 pub kept : (line : List ℕ) (lines : List (List ℕ)) → line ≢ [] → filter is_some_line (line ∷ lines) ≡ line ∷ filter is_some_line lines
-kept [] lines some = absurd (some refl)
-kept (b ∷ line) lines some = refl
+kept line lines some = grind (arith, nat_tests)
 
 -- a line among those of a list
 middle : (xs ys : List (List ℕ)) (line : List ℕ) (ls : List Line) → AllByRecursion IsGood ls → xs ++ line ∷ ys ≡ texts ls
@@ -63,9 +63,7 @@ abbrev Places : List (List ℕ) → List (List ℕ) → List ℕ → List ℕ �
 Places a b x y = (length a ≡ length b) ⊎ ((more : List (List ℕ)) × (b ≡ a ++ x ∷ more)) ⊎ ((more : List (List ℕ)) × (a ≡ b ++ y ∷ more))
 
 places_later : (l m : List ℕ) (a b : List (List ℕ)) (x y : List ℕ) → l ≡ m → Places a b x y → Places (l ∷ a) (m ∷ b) x y
-places_later l m a b x y same (inl e) = inl (ap suc e)
-places_later l m a b x y same (inr (inl (more, e))) = inr (inl (more, cc))
-places_later l m a b x y same (inr (inr (more, e))) = inr (inr (more, cc))
+places_later l m a b x y same h = grind (arith, nat_tests)
 
 places : (a b : List (List ℕ)) (x y : List ℕ) (more others : List (List ℕ)) → a ++ x ∷ more ≡ b ++ y ∷ others → Places a b x y
 places [] [] x y more others e = inl refl
@@ -77,13 +75,7 @@ places (l ∷ a) (m ∷ b) x y more others e =
     places_later l m a b x y first (places a b x y more others rest)
 
 same_place : (lines : List (List ℕ)) (n m : ℕ) → IsFirstRefused lines n → IsFirstRefused lines m → n ≡ m
-same_place lines n m p q = elim (places p.before q.before p.line q.line p.after q.after (sym p.all ∙ q.all)) [
-  | inl same ↦ p.place ∙ ap (λ k. k + 1) same ∙ sym q.place
-  | inr later ↦ absurd (elim later [
-    | inl b ↦ none_refused p.scripts q.scripts p.before b.0 p.line p.good p.bad (subst (λ ls. AreScripts ls q.scripts) b.1 q.good)
-    | inr a ↦ none_refused q.scripts p.scripts q.before a.0 q.line q.good q.bad (subst (λ ls. AreScripts ls p.scripts) a.1 p.good)
-  ])
-]
+same_place lines n m p q = grind (arith, nat_tests, places, none_refused)
 
 pub same_reading : (bytes : List ℕ) (r s : Result (List (List Command)) ℕ) → ScriptsOf bytes r → ScriptsOf bytes s → r ≡ s
 same_reading bytes (Ok a) (Ok b) p q =

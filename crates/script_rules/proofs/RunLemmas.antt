@@ -1,9 +1,10 @@
 -- What steps and runs keep, and what they cost.
-use Rattle.std.proofs.Common.{◌≡◌, ℕ, zero, suc, ◌+◌, ◌≤◌, refl, sym, ap, ◌∙◌, arith, true, true≢false, Some, None, List, [], ◌∷◌, ◌++◌, length, take}
+use Rattle.std.proofs.lemmas.Bool.Decides.{nat_tests}
+use Rattle.std.proofs.Common.{◌≡◌, ℕ, zero, suc, ◌+◌, ◌≤◌, refl, ap, arith, true, true≢false, Some, None, List, [], ◌∷◌, ◌++◌, length, take}
 use Rattle.std.specs.List.{AllByRecursion}
 use Rattle.std.proofs.lemmas.List.{take_all}
 use Rattle.script_rules.specs.Objects.{get, Objects, need, IsObject, AreObjects}
-use Rattle.script_rules.specs.Effects.{Effect, Tells, Gives, LetsGo, effect}
+use Rattle.script_rules.specs.Effects.{Effect, effect}
 use Rattle.script_rules.specs.Machine.{Answer, settle, step, is_refusal, answer_first, run_from, run, ran_on, sum, cost_of, cost_of_first}
 use Rattle.script_rules.specs.Outcomes.{HasBytes}
 use Rattle.script_rules.specs.declared.commands.Command.{Command}
@@ -20,19 +21,7 @@ pub record IsSettled (objects : Objects) (answer : Answer) : Type 0 where
   pub bytes : HasBytes answer.reply
 
 settled : (objects : Objects) (e : Effect) → AreObjects objects → Serves (get objects) e → IsSettled objects (settle objects e)
-settled objects (Tells reply) are s = record { keeps = are; needs = omega arith; refused = λ r. (refl, refl); bytes = s }
-settled objects (Gives n o reply cost) are s = record {
-  keeps = record { rising = rising_bind objects n o are.rising; each = all_bind (λ e. IsObject e.1) objects n o s.1 are.each };
-  needs = omega (arith, need_bind objects n o are.rising, s.2);
-  refused = λ r. absurd (true≢false (sym r ∙ s.0.0));
-  bytes = s.0.1;
-}
-settled objects (LetsGo n) are s = record {
-  keeps = record { rising = rising_unbind objects n are.rising; each = all_filter _ _ objects are.each };
-  needs = omega (arith, need_unbind objects n);
-  refused = λ r. absurd (true≢false (sym r));
-  bytes = tt;
-}
+settled objects e are s = grind (arith, nat_tests, rising_bind, all_bind, need_bind, true≢false, rising_unbind, all_filter, need_unbind)
 
 pub stepped : (c : Command) (objects : Objects) → AreObjects objects → IsSettled objects (step c objects)
 stepped c objects are = settled objects (effect c (get objects)) are (serves c (get objects) held)

@@ -1,4 +1,5 @@
 -- A text is that of one list of outcomes.
+use Rattle.std.proofs.lemmas.Bool.Decides.{nat_tests}
 use Rattle.std.proofs.Common.{◌≡◌, ℕ, zero, suc, ◌+◌, ◌≤◌, Bool, true, false, List, [], ◌∷◌, ◌++◌, length, length-append, map, drop, refl, sym, ap, ◌∙◌, arith, append_assoc, codes}
 use Rattle.std.specs.Prelude.{◌==◌, if◌then◌else◌}
 use Rattle.std.specs.List.{AllByRecursion, flat_map}
@@ -77,10 +78,7 @@ read_printed text = let f = read_to_feed text in if begins_with 45 f.0 then ([],
 read_printed_back : (bytes rest : List ℕ) → AllByRecursion IsPrintedByte bytes
     → read_printed (text_or_dash bytes ++ 10 ∷ rest) ≡ (bytes, 10 ∷ rest)
 unfolding read_printed read_to_feed begins_with
-read_printed_back [] rest h = refl
-read_printed_back (b ∷ bytes) rest h =
-    ap (λ f. if begins_with 45 f.0 then ([], f.1) else f) (read_to_feed_back (b ∷ bytes) rest h)
-    ∙ ap (λ (t : Bool). if t then ([], 10 ∷ rest) else (b ∷ bytes, 10 ∷ rest)) (ne_eqb 45 b (λ e. h.0.1 (sym e)))
+read_printed_back bytes rest h = grind (arith, nat_tests, begins_with, read_to_feed_back, ne_eqb)
 
 -- ---- Lines
 
@@ -138,8 +136,7 @@ read_reply_line (Truth true) rest h = refl
 read_reply_line _ rest h = refl
 
 read_ended_line : (e : Ended) (rest : List ℕ) → read_line (ended_line e ++ 10 ∷ rest) ≡ (Ends e, 10 ∷ rest)
-read_ended_line ended.OutOfMemory rest = refl
-read_ended_line _ rest = refl
+read_ended_line e rest = grind (arith, nat_tests)
 
 read_line_back : (l : Line) (rest : List ℕ) → IsGood l → read_line (line_of l ++ 10 ∷ rest) ≡ (l, 10 ∷ rest)
 read_line_back (Begins i) rest h = read_field_back Begins i (10 ∷ rest) refl
@@ -153,9 +150,7 @@ read_back : (l : Line) (rest : List ℕ) → IsGood l → read_line (with_feed (
 read_back l rest h = ap read_line (append_assoc (line_of l) (10 ∷ []) rest) ∙ read_line_back l rest h
 
 not_empty : (l : Line) (rest : List ℕ) → [] ≡ with_feed (line_of l) ++ rest → ⊥
-not_empty l rest e =
-    let same : 0 ≡ length (with_feed (line_of l) ++ rest) = ap length e in
-    omega (arith, same, length-append (with_feed (line_of l)) rest, length-append (line_of l) (10 ∷ []))
+not_empty l rest e = grind (arith, nat_tests, length-append)
 
 same_lines : (a b : List Line) → AllByRecursion IsGood a → AllByRecursion IsGood b → text_of a ≡ text_of b → a ≡ b
 same_lines [] [] h g e = refl
