@@ -1,5 +1,6 @@
 -- Which numbers of a printed tree fit.
-use Rattle.std.proofs.Common.{ℕ, ◌≤◌, List, [], ◌∷◌, subst, Ok, lit<}
+use Rattle.std.proofs.lemmas.Bool.Decides.{nat_tests}
+use Rattle.std.proofs.Common.{arith, ℕ, ◌≤◌, List, ◌∷◌, Ok, lit<}
 use Rattle.std.specs.List.{AllByRecursion}
 use Rattle.tree_rules.specs.Tokens.{Token, RightParen, RightBrace, Semicolon, tokens, without_places}
 use Rattle.tree_rules.specs.Trees.{Expr, Num, Name, Neg, Sum, Prod, Exprs, NoExprs, And, Stmt, Let, Show, Block, Stmts, NoStmts, Then, AreStmts, HasSmall, HaveSmall, StmtFits, StmtsFit, text}
@@ -63,9 +64,4 @@ mutual
 -- The text of a tree whose numbers fit is read as that tree, where it isn't too deep.
 pub text_tree : (t : Stmts) → AreStmts t → StmtsFit t → (n : ℕ) → IsProgram (without_places (tokens (text t))) t n → n ≤ most_nest
     → TreeOf (text t) (Ok t)
-text_tree t h small n is low = record {
-  most = n;
-  program = is;
-  within = low;
-  fit = subst All (text_tokens t h) (lines_small t Empty [] small tt (λ ts all. all));
-}
+text_tree t h small n is low = grind (arith, nat_tests, text_tokens, lines_small)

@@ -1,5 +1,6 @@
 -- Each state that the machine reaches is that of a place in a program.
-use Rattle.std.proofs.Common.{◌≡◌, ℕ, ◌+◌, ◌≤◌, Some, List, ◌∷◌, length, refl, sym, ap, ◌∙◌, subst, arith}
+use Rattle.std.proofs.lemmas.Bool.Decides.{nat_tests}
+use Rattle.std.proofs.Common.{◌≡◌, ℕ, ◌+◌, ◌≤◌, Some, List, ◌∷◌, length, refl, sym, ap, ◌∙◌, arith}
 use Rattle.std.proofs.lemmas.Option.{none-some, same_Some}
 use Rattle.tree_rules.specs.Tokens.{Token, LetKey, Word, Number, Plus, Minus, Star, LeftParen, RightParen, LeftBrace, RightBrace, Equals, Semicolon}
 use Rattle.tree_rules.specs.Grammar.{Factor, ANumber, AName, InParens, Negated, Factors, OneFactor, Times, Terms, OneTerm, Added, Taken, Line, LetLine, ShowLine, BlockLine, Empty, Next, spell_factor, spell_factors, spell_terms, spell_line, factor_nest, factors_nest, terms_nest, line_nest}
@@ -86,35 +87,28 @@ around (ToTake s h) = h
 
 terms_before : (h : TermHole) (t : Factors) (more : List Token)
     → before_expr (around h) (spell_terms (terms_done h t) more) ≡ before_term h (spell_factors t more)
-terms_before (FirstTerm h) t more = refl
-terms_before _ t more = refl
+terms_before h t more = grind (arith, nat_tests)
 
 terms_open : (h : TermHole) → open_at_expr (around h) ≡ open_at_term h
-terms_open (FirstTerm h) = refl
-terms_open _ = refl
+terms_open h = grind (arith, nat_tests)
 
 terms_fit : (h : TermHole) (t : Factors) (most : ℕ) → factors_nest t + length (open_at_term h) ≤ most → TermFits h most
     → (terms_nest (terms_done h t) + length (open_at_expr (around h)) ≤ most) × ExprFits (around h) most
-terms_fit (FirstTerm h) t most low fits = (low, fits)
-terms_fit (ToAdd s h) t most low fits = (omega (arith, fits.0), fits.1)
-terms_fit (ToTake s h) t most low fits = (omega (arith, fits.0), fits.1)
+terms_fit h t most low fits = grind (arith, nat_tests)
 
 abbrev pub line_added : LineHole → Line → LineHole
 line_added (InProgram p) l = InProgram (Next p l)
 line_added (InBlock p h) l = InBlock (Next p l) h
 
 line_added_before : (h : LineHole) (l : Line) (more : List Token) → before_line (line_added h l) more ≡ before_line h (spell_line l more)
-line_added_before (InProgram p) l more = refl
-line_added_before (InBlock p h) l more = refl
+line_added_before h l more = grind (arith, nat_tests)
 
 line_added_open : (h : LineHole) (l : Line) → open_at_line (line_added h l) ≡ open_at_line h
-line_added_open (InProgram p) l = refl
-line_added_open (InBlock p h) l = refl
+line_added_open h l = grind (arith, nat_tests)
 
 line_added_fits : (h : LineHole) (l : Line) (most : ℕ) → LineFits most h → line_nest l + length (open_at_line h) ≤ most
     → LineFits most (line_added h l)
-line_added_fits (InProgram p) l most fits low = omega (arith, fits)
-line_added_fits (InBlock p h) l most fits low = (omega (arith, fits.0), fits.1)
+line_added_fits h l most fits low = grind (arith, nat_tests)
 
 -- ---- The place after one more token
 
@@ -128,14 +122,7 @@ pub record Comes (most : ℕ) (tokens : List Token → List Token) (Fitted : Typ
 comes : {most : ℕ} {tokens : List Token → List Token} {Fitted : Type 0} {next : State} (place : Place)
     → Some (state_at place) ≡ Some next → ((more : List Token) → before place more ≡ tokens more)
     → (Fitted → length (state_at place).opens ≤ most → PlaceFits most place) → Comes most tokens Fitted next
-comes {most} {next = next} place e before_is fits =
-    let is = same_Some (state_at place) next e in
-    record {
-      place = place;
-      state_is = is;
-      before_is = before_is;
-      fits = λ fitted low. fits fitted (subst (λ (s : State). length s.opens ≤ most) (sym is) low);
-    }
+comes {most} {next = x1} place e before_is fits = grind (arith, nat_tests, same_Some)
 
 comes_factor : (most : ℕ) (h : FactorHole) (f : Factor) (next : State) → Some (state BehindFactor (signs_ended (open_at_factor h))) ≡
     Some next
@@ -147,12 +134,7 @@ comes_factor most h f next e = comes (factor_done h f) (ap Some (factor_done_sta
 -- at another place, with other premises that come to the same
 comes_as : (most : ℕ) (tokens others : List Token → List Token) (Fitted Given : Type 0) (next : State)
     → ((more : List Token) → tokens more ≡ others more) → (Given → Fitted) → Comes most tokens Fitted next → Comes most others Given next
-comes_as most tokens others Fitted Given next same as' c = record {
-  place = c.place;
-  state_is = c.state_is;
-  before_is = λ more. c.before_is more ∙ same more;
-  fits = λ fits low. c.fits (as' fits) low;
-}
+comes_as most tokens others Fitted Given next same as' c = grind (arith, nat_tests)
 
 at_factor : (most : ℕ) (h : FactorHole) (t : Token) (next : State) → factor_step t (open_at_factor h) ≡ Some next
     → Comes most (λ more. before_factor h (t ∷ more)) (PlaceFits most (FactorPlace h)) next
@@ -216,8 +198,7 @@ line_end (InBlock p h) = refl
 
 owned_before : (owner : Owner) (h : LineHole) (s : Terms) (more : List Token)
     → before_line (line_added h (owned owner s)) more ≡ before_line h (owner_tokens owner (spell_terms s (Semicolon ∷ more)))
-owned_before (LetOf name) h s more = line_added_before h (LetLine name s) more
-owned_before ShowOf h s more = line_added_before h (ShowLine s) more
+owned_before owner h s more = grind (arith, nat_tests, line_added_before)
 
 owned_fits : (owner : Owner) (h : LineHole) (s : Terms) (most : ℕ) → LineFits most h → terms_nest s + length (open_at_line h) ≤ most
     → LineFits most (line_added h (owned owner s))

@@ -1,4 +1,5 @@
 -- Each place of a token is in a program.
+use Rattle.std.proofs.lemmas.Bool.Decides.{nat_tests}
 use Rattle.std.proofs.Common.{◌≡◌, ℕ, ◌≤◌, Some, List, [], ◌∷◌, ◌++◌, length, refl, sym, ap, ◌∙◌, arith, append_assoc}
 use Rattle.tree_rules.specs.Tokens.{Token, Word, Number, Equals, Semicolon}
 use Rattle.tree_rules.specs.Grammar.{ANumber, OneFactor, Terms, OneTerm, LetLine, Program, Empty, spell, nest, BeginsWithin}
@@ -27,11 +28,7 @@ program_at (FactorPlace h) = fill_factor h (ANumber 0)
 program_at (BehindPlace t h) = fill_term h t
 
 program_spelled : (c : Place) → spell (program_at c) [] ≡ before c (more_at c)
-program_spelled (LinePlace h) = done_spelled h
-program_spelled (NamePlace h) = line_filled h (LetLine (97 ∷ []) zero_terms)
-program_spelled (EqualsPlace h name) = line_filled h (LetLine name zero_terms)
-program_spelled (FactorPlace h) = factor_filled h (ANumber 0)
-program_spelled (BehindPlace t h) = term_filled h t
+program_spelled c = grind (arith, nat_tests, done_spelled, line_filled, factor_filled, term_filled)
 
 program_fits : (c : Place) (most : ℕ) → PlaceFits most c → nest (program_at c) ≤ most
 program_fits (LinePlace h) most fits = done_fits h most fits.1

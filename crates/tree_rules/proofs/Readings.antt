@@ -1,5 +1,6 @@
 -- Tokens are those of one program at most.
-use Rattle.std.proofs.Common.{◌≡◌, ℕ, Option, Some, None, List, [], ◌∷◌, refl, sym, ap, ◌∙◌}
+use Rattle.std.proofs.lemmas.Bool.Decides.{nat_tests}
+use Rattle.std.proofs.Common.{arith, ◌≡◌, ℕ, Option, Some, None, List, [], ◌∷◌, refl, sym, ap, ◌∙◌}
 use Rattle.tree_rules.specs.Tokens.{Token, LetKey, Word, Number, Plus, Minus, Star, LeftParen, RightParen, LeftBrace, RightBrace, Equals, Semicolon}
 use Rattle.tree_rules.specs.Trees.{Stmts}
 use Rattle.tree_rules.specs.Grammar.{Factor, ANumber, AName, InParens, Negated, Factors, OneFactor, Times, Terms, OneTerm, Added, Taken, Line, LetLine, ShowLine, BlockLine, Program, Empty, Next, spell_factor, spell_factors, spell_terms, spell_line, spell, IsProgram, trees_of, nest}
@@ -76,26 +77,22 @@ last_place (Taken s t) h = BehindPlace t (ToTake s h)
 
 adds : (s : Terms) (h : ExprHole) (more : List Token) → reads (last_place s h) (Plus ∷ more) ≡ reads (FactorPlace (First (ToAdd s h))) more
 unfolding reads go go_behind and_go last_place
-adds (OneTerm t) h more = refl
-adds _ h more = refl
+adds s h more = grind (arith, nat_tests)
 
 takes : (s : Terms) (h : ExprHole) (more : List Token) → reads (last_place s h) (Minus ∷ more) ≡ reads (FactorPlace (First (ToTake s h)))
     more
 unfolding reads go go_behind and_go last_place
-takes (OneTerm t) h more = refl
-takes _ h more = refl
+takes s h more = grind (arith, nat_tests)
 
 closes : (s : Terms) (h : FactorHole) (more : List Token)
     → reads (last_place s (Within h)) (RightParen ∷ more) ≡ reads (factor_done h (InParens s)) more
 unfolding reads go go_behind go_paren and_go last_place
-closes (OneTerm t) h more = refl
-closes _ h more = refl
+closes s h more = grind (arith, nat_tests)
 
 ends : (s : Terms) (owner : Owner) (h : LineHole) (more : List Token)
     → reads (last_place s (Of owner h)) (Semicolon ∷ more) ≡ reads (LinePlace (line_added h (owned owner s))) more
 unfolding reads go go_behind go_end and_go last_place
-ends (OneTerm t) owner h more = refl
-ends _ owner h more = refl
+ends s owner h more = grind (arith, nat_tests)
 
 mutual
   unfolding reads go go_factor go_behind and_go last_place

@@ -119,9 +119,7 @@ further front t s next a is low fits = record {
 judges_size : (front : List Placed) (t : Placed) (s next : State) → IsAt front s → step s t.token ≡ Some next
     → length next.opens ≤ most_nest
     → (b : Bool) → is_too_big t.token ≡ b → Judges front t (cond b (Err (NumberTooBig t.at)) (Ok next))
-judges_size front t s next a is low true big =
-    (refl, step_begins most_nest (without_places front) t.token s next a.goes_is is low, big_not_fit t.token big)
-judges_size front t s next a is low false small = further front t s next a is low ((size_fits t.token).1 small)
+judges_size front t s next a is low b big = grind (arith, nat_tests, step_begins, big_not_fit, further, size_fits)
 
 judges_depth : (front : List Placed) (t : Placed) (s next : State) → IsAt front s → step s t.token ≡ Some next
     → (b : Bool) → nat_lt most_nest (length next.opens) ≡ b
@@ -181,9 +179,7 @@ reading bytes = says_from bytes [] (tokens bytes) start refl first_at
 -- ---- And nothing else is right
 
 judged_ok : (s next : State) (t : Placed) → step s t.token ≡ Some next → length next.opens ≤ most_nest → Fits t.token → judged s t ≡ Ok next
-judged_ok s next t is low fits =
-    let shallow : nat_lt most_nest (length next.opens) ≡ false = grind (arith, nat_tests) in
-    rw is (rw (shallow, (size_fits t.token).0 fits) refl)
+judged_ok s next t is low fits = grind (arith, nat_tests, size_fits)
 
 over : (end : ℕ) (s last : State) (ts rest : List Placed) → goes most_nest s (without_places ts) ≡ Some last
     → AllByRecursion Fits (without_places ts)
@@ -197,15 +193,7 @@ over end s last (t ∷ ts) rest e fits =
     ∙ over end g.next last ts rest g.rest fits.1
 
 one_cause : (front : List Token) (t : Token) (at : ℕ) (r q : Refused) → IsCause front t at r → IsCause front t at q → r ≡ q
-one_cause front t at (Syntax a) (Syntax b) h g = ap Syntax (h.0 ∙ sym g.0)
-one_cause front t at (Syntax a) (TooDeep b) h g = absurd (h.1 g.1)
-one_cause front t at (Syntax a) (NumberTooBig b) h g = absurd (h.1 (begins most_nest _ g.1))
-one_cause front t at (TooDeep a) (Syntax b) h g = absurd (g.1 h.1)
-one_cause front t at (TooDeep a) (TooDeep b) h g = ap TooDeep (h.0 ∙ sym g.0)
-one_cause front t at (TooDeep a) (NumberTooBig b) h g = absurd (h.2 g.1)
-one_cause front t at (NumberTooBig a) (Syntax b) h g = absurd (g.1 (begins most_nest _ h.1))
-one_cause front t at (NumberTooBig a) (TooDeep b) h g = absurd (g.2 h.1)
-one_cause front t at (NumberTooBig a) (NumberTooBig b) h g = ap NumberTooBig (h.0 ∙ sym g.0)
+one_cause front t at r q h g = grind (arith, nat_tests, begins)
 
 -- the last of tokens that fit fits
 last_fits : (front : List Token) (t : Token) → AllByRecursion Fits (front ++ t ∷ []) → Fits t
@@ -219,9 +207,7 @@ no_cause front t at (NumberTooBig a) p h = h.2 (last_fits front t p.fit)
 
 judged_cause : (front : List Placed) (t : Placed) (q : Refused) (r : Result State Refused) → Judges front t r
     → IsCause (without_places front) t.token t.at q → r ≡ Err q
-judged_cause front t q (Err refused) h cause = ap Err (one_cause (without_places front) t.token t.at refused q h cause)
-judged_cause front t q (Ok next) h cause =
-    absurd (no_cause (without_places front) t.token t.at q (subst ArePassed (without_append front (t ∷ [])) (passed _ next h)) cause)
+judged_cause front t q r h cause = grind (arith, nat_tests, one_cause, no_cause, without_append, passed)
 
 at_passed : (front : List Placed) → ArePassed (without_places front) → (s : State) × IsAt front s
 at_passed front p =
@@ -282,8 +268,7 @@ some_reading bytes = some_from bytes (refusal_of bytes) (reading bytes)
 
 -- The machine refuses a text exactly as it is refused.
 pub machine_says : (bytes : List ℕ) (r : Result Stmts Refused) → TreeOf bytes r → refusal_of bytes ≡ refused_by r
-machine_says bytes (Ok trees) h = good_says bytes trees h
-machine_says bytes (Err q) h = err_says bytes q h
+machine_says bytes r h = grind (arith, nat_tests, good_says, err_says)
 
 -- ---- A text has exactly one report
 

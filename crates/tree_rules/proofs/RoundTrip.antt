@@ -1,5 +1,6 @@
 -- The text of a tree is a program, and its tree is that tree.
-use Rattle.std.proofs.Common.{◌≡◌, ℕ, List, [], ◌∷◌, ◌++◌, refl, sym, ap, ◌∙◌, codes, append_assoc, append-nil}
+use Rattle.std.proofs.lemmas.Bool.Decides.{nat_tests}
+use Rattle.std.proofs.Common.{arith, ◌≡◌, ℕ, List, [], ◌∷◌, ◌++◌, refl, sym, ap, ◌∙◌, codes, append_assoc, append-nil}
 use Rattle.tree_rules.specs.Tokens.{Token, front, LetKey, Word, Plus, Minus, Star, LeftParen, RightParen, LeftBrace, RightBrace, Equals, Semicolon, tokens, without_places}
 use Rattle.call_rules.specs.Grammar.{with_feed}
 use Rattle.tree_rules.specs.Trees.{Expr, Num, Name, Neg, Sum, Prod, Exprs, NoExprs, And, with_expr, Stmt, Let, Show, Block, Stmts, NoStmts, Then, with_stmt, IsName, AreSeveral, IsExpr, AreExprs, IsStmt, AreStmts, AsExpr, AsTerm, AsFactor, expr_text, terms_text, more_terms_text, factors_text, more_factors_text, stmt_text, text}
@@ -60,21 +61,17 @@ abbrev mutual
 -- ---- Its tokens
 
 more_terms_stop : (kids : Exprs) (rest : List ℕ) → Stops rest → Stops (more_terms_text kids ++ rest)
-more_terms_stop NoExprs rest stop = stop
-more_terms_stop (And (Neg e) kids) rest stop = refl
-more_terms_stop _ rest stop = refl
+more_terms_stop kids rest stop = grind (arith, nat_tests)
 
 more_factors_stop : (kids : Exprs) (rest : List ℕ) → Stops rest → Stops (more_factors_text kids ++ rest)
-more_factors_stop NoExprs rest stop = stop
-more_factors_stop (And e kids) rest stop = refl
+more_factors_stop kids rest stop = grind (arith, nat_tests)
 
 -- a text in parentheses
 parens_lex : (inner rest : List ℕ) (spelled : List Token → List Token)
     → ((more : List ℕ) → Stops more → lex 0 (inner ++ more) ≡ spelled (lex 0 more))
     → lex 0 ((codes "(" ++ inner ++ codes ")") ++ rest) ≡ LeftParen ∷ spelled (RightParen ∷ lex 0 rest)
 unfolding lex front
-parens_lex inner rest spelled is =
-    ap (λ ts. LeftParen ∷ ts) (ap (lex 0) (append_assoc inner (41 ∷ []) rest) ∙ is (41 ∷ rest) refl)
+parens_lex inner rest spelled is = grind (arith, nat_tests, lex, append_assoc)
 
 -- an operator, and one part more
 operators_lex : (xs : List ℕ) → (lex 0 (codes " + " ++ xs) ≡ Plus ∷ lex 0 xs) × (lex 0 (codes " - " ++ xs) ≡ Minus ∷ lex 0 xs)
@@ -85,8 +82,7 @@ operators_lex xs = (refl, refl, refl)
 more_lex : (operator one more rest : List ℕ) (t : Token) (ahead part : List Token → List Token)
     → ((xs : List ℕ) → lex 0 (operator ++ xs) ≡ t ∷ lex 0 xs) → lex 0 (one ++ (more ++ rest)) ≡ part (lex 0 (more ++ rest))
     → ahead (t ∷ part (lex 0 (more ++ rest))) ≡ ahead (lex 0 ((operator ++ (one ++ more)) ++ rest))
-more_lex operator one more rest t ahead part op is = ap ahead (ap (λ ts. t ∷ ts) (sym is ∙ ap (lex 0) (sym (append_assoc one more rest)))
-    ∙ sym (ap (lex 0) (append_assoc operator (one ++ more) rest) ∙ op ((one ++ more) ++ rest)))
+more_lex operator one more rest t ahead part op is = grind (arith, nat_tests, lex, append_assoc)
 
 negated_lex : (inner rest : List ℕ) (f : Factor) → lex 0 (inner ++ rest) ≡ spell_factor f (lex 0 rest)
     → lex 0 ((codes "-" ++ inner) ++ rest) ≡ Minus ∷ spell_factor f (lex 0 rest)
@@ -157,9 +153,7 @@ ended_lex e rest h =
 let_lex : (name tail rest : List ℕ) → IsName name
     → lex 0 (((codes "let " ++ name ++ codes " = ") ++ tail) ++ rest) ≡ LetKey ∷ Word name ∷ Equals ∷ lex 0 (tail ++ rest)
 unfolding lex front
-let_lex name tail rest h =
-    ap (λ xs. LetKey ∷ lex 0 xs) (append_assoc (name ++ codes " = ") tail rest ∙ append_assoc name (codes " = ") (tail ++ rest))
-    ∙ ap (λ ts. LetKey ∷ ts) (lex_name name (codes " = " ++ (tail ++ rest)) h refl)
+let_lex name tail rest h = grind (arith, nat_tests, lex, append_assoc, codes, lex_name)
 
 let_text : (name e : List ℕ) → codes "let " ++ name ++ codes " = " ++ e ++ with_feed (codes ";") ≡ (codes "let " ++ name ++ codes " = ")
     ++ (e ++ with_feed (codes ";"))
@@ -168,8 +162,7 @@ let_text name e = append_assoc (codes "let " ++ name ++ codes " = ") e (with_fee
 braces_lex : (inner rest : List ℕ) (p : Program) → lex 0 (inner ++ (125 ∷ 10 ∷ rest)) ≡ spell p (lex 0 (125 ∷ 10 ∷ rest))
     → lex 0 ((with_feed (codes "{") ++ inner ++ with_feed (codes "}")) ++ rest) ≡ LeftBrace ∷ spell p (RightBrace ∷ lex 0 rest)
 unfolding lex front
-braces_lex inner rest p is =
-    ap (λ ts. LeftBrace ∷ ts) (ap (lex 0) (append_assoc inner (with_feed (codes "}")) rest) ∙ is)
+braces_lex inner rest p is = grind (arith, nat_tests, lex, append_assoc, codes)
 
 mutual
   line_lex : (s : Stmt) (rest : List ℕ) → IsStmt s → lex 0 (stmt_text s ++ rest) ≡ spell_line (as_line s) (lex 0 rest)
@@ -214,12 +207,10 @@ product_tree f NoExprs t = refl
 product_tree f (And g kids) t = product_tree g kids (Times t (as_factor f))
 
 sum_is : (kids : Exprs) → AreSeveral kids → terms_tree (as_sum kids) ≡ Sum (term_trees (as_sum kids))
-sum_is (And e (And f kids)) h = sum_tree f kids (OneTerm (as_term e))
-sum_is _ h = absurd h
+sum_is kids h = grind (arith, nat_tests, sum_tree)
 
 product_is : (kids : Exprs) → AreSeveral kids → factors_tree (as_product kids) ≡ Prod (factor_trees (as_product kids))
-product_is (And e (And f kids)) h = product_tree f kids (OneFactor (as_factor e))
-product_is _ h = absurd h
+product_is kids h = grind (arith, nat_tests, product_tree)
 
 mutual
   part_back : (e : Expr) → IsExpr e → (factor_tree (as_factor e) ≡ e) × (factors_tree (as_term e) ≡ e) × (terms_tree (as_expr e) ≡ e)

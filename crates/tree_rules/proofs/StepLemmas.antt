@@ -1,5 +1,5 @@
 -- The machine accepts each program, and holds no more open than its nesting.
-use Rattle.std.proofs.Common.{◌≡◌, ℕ, ◌+◌, ◌≤◌, true, cond, Option, Some, None, List, [], ◌∷◌, length, refl, ap, ◌∙◌, arith}
+use Rattle.std.proofs.Common.{◌≡◌, ℕ, ◌+◌, ◌≤◌, cond, Option, Some, None, List, [], ◌∷◌, length, refl, ap, ◌∙◌, arith}
 use Rattle.std.specs.Prelude.{nat_le}
 use Rattle.std.proofs.lemmas.Bool.Decides.{nat_tests}
 use Rattle.tree_rules.specs.Tokens.{Token, LetKey, Word, Number, Plus, Minus, Star, LeftParen, RightParen, LeftBrace, RightBrace, Equals, Semicolon}
@@ -26,9 +26,7 @@ goes most s (t ∷ ts) = and_then (kept most (step s t)) (λ next. goes most nex
 pub goes_step : (most : ℕ) (s : State) (t : Token) (ts : List Token) (next : State) → step s t ≡ Some next → length next.opens ≤ most
     → goes most s (t ∷ ts) ≡ goes most next ts
 unfolding goes
-goes_step most s t ts next is low =
-    let test : nat_le (length next.opens) most ≡ true = grind (arith, nat_tests) in
-    rw is (rw test refl)
+goes_step most s t ts next is low = grind (arith, nat_tests)
 
 goes_on : (most : ℕ) (mode : Mode) (opens : List Open) (t : Token) (ts : List Token) (next : State)
     → step_in mode opens t ≡ Some next → length next.opens ≤ most → goes most (state mode opens) (t ∷ ts) ≡ goes most next ts

@@ -1,11 +1,10 @@
 -- The tokens of pieces of text, one after another.
 use Rattle.std.proofs.Common.{◌≡◌, ℕ, zero, suc, ◌+◌, ◌-◌, ◌*◌, ◌%◌, ◌<◌, ◌==◌, Bool, true, false, List, [], ◌∷◌, ◌++◌, length, get_or, length-append, refl, ap, ◌∙◌, arith, codes}
-use Rattle.std.specs.Prelude.{bytes_eq}
 use Rattle.std.specs.List.{list_all, AllByRecursion}
 use Rattle.std.proofs.lemmas.Bool.Decides.{nat_tests}
 use Rattle.call_rules.specs.Grammar.{number}
 use Rattle.call_rules.proofs.NumberLemmas.{number_by_steps}
-use Rattle.tree_rules.specs.Tokens.{Token, LetKey, Word, Number, Other, is_space, is_digit, is_name_start, is_name_byte, run, value, has_needless_zero, Front, look_up, word_front, number_front, sign_front, other_front, front, tokens_from, without_places}
+use Rattle.tree_rules.specs.Tokens.{Token, Word, Number, Other, is_space, is_digit, is_name_start, is_name_byte, run, value, has_needless_zero, Front, look_up, word_front, number_front, sign_front, front, tokens_from, without_places}
 use Rattle.tree_rules.specs.Trees.{IsName}
 use Rattle.std.proofs.lemmas.Bool.{and_parts, or_left, cond-true, cond-false, cond_both}
 use Rattle.std.proofs.lemmas.List.Folds.{list_all-append}
@@ -53,8 +52,7 @@ run_stops passes (x ∷ xs) rest all stop =
     rw parts.0 (ap (λ ys. x ∷ ys) (run_stops passes xs rest parts.1 stop))
 
 name_stops : (rest : List ℕ) → Stops rest → run is_name_byte rest ≡ []
-name_stops [] h = refl
-name_stops (b ∷ bytes) h = rw h refl
+name_stops rest h = grind (arith, nat_tests)
 
 digit_stops : (rest : List ℕ) → Stops rest → run is_digit rest ≡ []
 digit_stops [] h = refl
@@ -83,22 +81,10 @@ lex_front b bytes rest t f space is token long =
 
 name_front : (b : ℕ) (bytes rest : List ℕ) → IsName (b ∷ bytes) → Stops rest → front b (bytes ++ rest) ≡ word_front (b ∷ bytes)
 unfolding front
-name_front b bytes rest h stop =
-    let start : is_name_start b ≡ true = h.0 in
-    let all : list_all is_name_byte (b ∷ bytes) ≡ true
-    = rw (or_left (is_name_start b) (is_digit b) start) h.1 in
-    let no_digit : is_digit b ≡ false = grind (arith, nat_tests, start) in
-    cond-false (is_digit b) (number_front (run is_digit (b ∷ bytes ++ rest))) (other_front b (bytes ++ rest)) no_digit
-    ∙ cond-true (is_name_start b) _ _ start
-    ∙ ap word_front (run_stops is_name_byte (b ∷ bytes) rest all (name_stops rest stop))
+name_front b bytes rest h stop = grind (arith, nat_tests, or_left, cond-false, cond-true, run_stops, name_stops)
 
 pub lex_name : (bytes rest : List ℕ) → IsName bytes → Stops rest → lex 0 (bytes ++ rest) ≡ Word bytes ∷ lex 0 rest
-lex_name [] rest h stop = absurd h
-lex_name (b ∷ bytes) rest h stop =
-    let start : is_name_start b ≡ true = h.0 in
-    let no_space : is_space b ≡ false = grind (arith, nat_tests, start) in
-    lex_front b bytes rest (Word (b ∷ bytes)) (word_front (b ∷ bytes)) no_space (name_front b bytes rest h stop)
-    (cond-false (bytes_eq (b ∷ bytes) (codes "let")) LetKey (Word (b ∷ bytes)) h.2) refl
+lex_name bytes rest h stop = grind (arith, nat_tests, lex_front, name_front, cond-false, codes)
 
 -- ---- Numbers
 
@@ -154,15 +140,7 @@ number_digits = number_by_steps AreDigits
 
 digits_lex : (n : ℕ) (ds rest : List ℕ) → AreDigits n ds → Stops rest → lex 0 (ds ++ rest) ≡ Number n ∷ lex 0 rest
 unfolding front
-digits_lex n [] rest h stop = absurd (omega (arith, h.some))
-digits_lex n (d ∷ ds) rest h stop =
-    let parts = and_parts (is_digit d) (list_all is_digit ds) h.digits in
-    let front_is : front d (ds ++ rest) ≡ number_front (d ∷ ds)
-    = cond-true (is_digit d) (number_front (run is_digit (d ∷ ds ++ rest))) (other_front d (ds ++ rest)) parts.0
-    ∙ ap number_front (run_stops is_digit (d ∷ ds) rest h.digits (digit_stops rest stop)) in
-    let no_space : is_space d ≡ false = grind (arith, nat_tests, parts.0) in
-    lex_front d ds rest (Number n) (number_front (d ∷ ds)) no_space front_is
-    (cond-false (has_needless_zero (d ∷ ds)) Other (Number (value 0 (d ∷ ds))) h.needless ∙ ap Number h.value_is) refl
+digits_lex n ds rest h stop = grind (arith, nat_tests, and_parts, cond-true, run_stops, digit_stops, lex_front, cond-false)
 
 pub lex_number : (n : ℕ) (rest : List ℕ) → Stops rest → lex 0 (number n ++ rest) ≡ Number n ∷ lex 0 rest
 lex_number n rest stop = digits_lex n (number n) rest (number_digits n) stop

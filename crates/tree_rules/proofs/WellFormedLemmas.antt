@@ -1,4 +1,5 @@
 -- The tree of a text is well formed: its names are names, its sums and products have several children, its numbers fit.
+use Rattle.std.proofs.lemmas.Bool.Decides.{nat_tests}
 use Rattle.std.proofs.Common.{◌≡◌, ℕ, zero, suc, ◌-◌, Bool, true, false, cond, List, [], ◌∷◌, refl, subst, sym, codes, arith}
 use Rattle.std.specs.Prelude.{◌||◌, bytes_eq}
 use Rattle.std.specs.List.{list_all, AllByRecursion}
@@ -154,7 +155,4 @@ mutual
       (with_line (trees_of p) (line_tree l) first.0 last.0, last.1)
 
 pub good_fine : (bytes : List ℕ) (trees : Stmts) → IsGood bytes trees → AreStmts trees × StmtsFit trees
-good_fine bytes trees good =
-    subst StmtsFine good.program.trees_are
-    (program_fine good.program.program []
-    (subst All (sym good.program.tokens_are) (both _ (tokens_named bytes) good.fit))).0
+good_fine bytes trees good = grind (arith, nat_tests, program_fine, both, tokens_named)
