@@ -1,7 +1,9 @@
 -- Bytes that are read from hexadecimal digits.
-use Rattle.std.proofs.Common.{◌≡◌, ◌≢◌, ℕ, ◌/◌, ◌%◌, ◌<◌, IsTrue, List, [], ◌∷◌, ◌++◌, length, Option, Some, refl, sym, ap, ◌∙◌, subst, arith, codes}
+use Rattle.std.proofs.Common.{◌≡◌, ◌≢◌, ℕ, ◌/◌, ◌%◌, ◌<◌, IsTrue, List, [], ◌∷◌, ◌++◌, length, drop, get_or, append_assoc, Option, Some, refl, sym, ap, ◌∙◌, subst, arith, codes}
 use Rattle.std.specs.List.{AllByRecursion, flat_map}
 use Rattle.std.proofs.lemmas.Bool.Decides.{nat_tests}
+use Rattle.std.proofs.lemmas.Grind.{flat_map-append}
+use Rattle.arena_rules.proofs.ListLemmas.{all_append}
 use Rattle.call_rules.specs.Grammar.{hex, hex_digit, hex_pair, IsByte}
 use Rattle.line_parts.specs.Reads.{is_word_end, ReadsFront, HasNoPair}
 
@@ -10,27 +12,14 @@ pub record HasRead (bytes items left : List ℕ) : Type 0 where
   pub text : bytes ≡ flat_map hex_pair items ++ left
   pub fit : AllByRecursion IsByte items
 
--- nothing was read yet
-pub read_none : (bytes items : List ℕ) → items ≡ [] → HasRead bytes items bytes
-read_none bytes items none = subst (λ xs. HasRead bytes xs bytes) (sym none) (record { text = refl; fit = tt })
-
 -- one byte more
 pub read_more : (bytes items left : List ℕ) (b : ℕ) (rest : List ℕ) → HasRead bytes items left → IsByte b × (left ≡ hex_pair b ++ rest)
     → HasRead bytes (items ++ b ∷ []) rest
-read_more bytes items left b rest h next =
-    record { text = h.text ∙ ap (λ xs. flat_map hex_pair items ++ xs) next.1 ∙ joined items; fit = longer items h.fit }
-  where
-    joined : (xs : List ℕ) → flat_map hex_pair xs ++ (hex_pair b ++ rest) ≡ flat_map hex_pair (xs ++ b ∷ []) ++ rest
-    joined [] = refl
-    joined (x ∷ xs) = ap (λ ys. hex_digit (x / 16) ∷ hex_digit (x % 16) ∷ ys) (joined xs)
-
-    longer : (xs : List ℕ) → AllByRecursion IsByte xs → AllByRecursion IsByte (xs ++ b ∷ [])
-    longer [] fit = (next.0, tt)
-    longer (x ∷ xs) fit = (fit.0, longer xs fit.1)
-
--- less is left after a byte
-pub less_left : (left : List ℕ) (b : ℕ) (rest : List ℕ) → left ≡ hex_pair b ++ rest → length rest < length left
-less_left left b rest e = omega (arith, ap length e)
+read_more bytes items left b rest h next = record {
+  text = h.text ∙ ap (λ xs. flat_map hex_pair items ++ xs) next.1 ∙ sym (append_assoc (flat_map hex_pair items) (hex_pair b) rest)
+      ∙ ap (λ xs. xs ++ rest) (sym (flat_map-append hex_pair items (b ∷ [])));
+  fit = all_append IsByte items (b ∷ []) h.fit (next.0, tt);
+}
 
 -- one hexadecimal digit for each number below 16
 same_digit : (c d : ℕ) → c < 16 → d < 16 → hex_digit c ≡ hex_digit d → c ≡ d
@@ -55,43 +44,28 @@ one_way [] (y ∷ ys) left rest p q none end e = absurd (none y (flat_map hex_pa
 one_way (x ∷ xs) [] left rest p q none end e =
     absurd (no_end x (flat_map hex_pair xs ++ left) p.0 (subst (λ bytes. IsTrue (is_word_end bytes)) (sym e) end))
 one_way (x ∷ xs) (y ∷ ys) left rest p q none end e =
-    let high : hex_digit (x / 16) ≡ hex_digit (y / 16) = first e in
-    let low : hex_digit (x % 16) ≡ hex_digit (y % 16) = second e in
-    let more = one_way xs ys left rest p.1 q.1 none end (others e) in
-    let same : x ≡ y = same_byte x y p.0 q.0 high low in
-    let front = more.0 in
-    (cc, more.1)
-  where
-    first : {a b c d : ℕ} {xs ys : List ℕ} → a ∷ b ∷ xs ≡ c ∷ d ∷ ys → a ≡ c
-    first e' = cc
-
-    second : {a b c d : ℕ} {xs ys : List ℕ} → a ∷ b ∷ xs ≡ c ∷ d ∷ ys → b ≡ d
-    second e' = cc
-
-    others : {a b c d : ℕ} {xs ys : List ℕ} → a ∷ b ∷ xs ≡ c ∷ d ∷ ys → xs ≡ ys
-    others e' = cc
+    let high : hex_digit (x / 16) ≡ hex_digit (y / 16) = ap (λ zs. get_or zs 0 0) e in
+    let low : hex_digit (x % 16) ≡ hex_digit (y % 16) = ap (λ zs. get_or zs 1 0) e in
+    let more = one_way xs ys left rest p.1 q.1 none end (ap (drop 2) e) in
+    (λ i. same_byte x y p.0 q.0 high low i ∷ more.0 i, more.1)
 
 -- ---- HEX
 
 abbrev pub ReadsHex : List ℕ → Option (List ℕ × List ℕ) → Type 0
 ReadsHex bytes read = ReadsFront (AllByRecursion IsByte) hex bytes read
 
--- what is at the front is what was read
-abbrev OnlyHex : List ℕ → Option (List ℕ × List ℕ) → Type 0
-OnlyHex bytes read = (items rest : List ℕ) → AllByRecursion IsByte items → IsTrue (is_word_end rest) → bytes ≡ hex items ++ rest
-    → ◌≡◌ {A = Option (List ℕ × List ℕ)} read (Some (items, rest))
-
 -- the bytes of all pairs at the front, if there are some and there is no dash
 pub hex_some : (bytes items left : List ℕ) → ((rest : List ℕ) → bytes ≢ codes "-" ++ rest) → bytes ≡ flat_map hex_pair items ++ left
     → AllByRecursion IsByte items → HasNoPair left → length items ≢ 0
     → ReadsHex bytes (Some (items, left))
 hex_some bytes [] left no_dash text fit none some = absurd (some refl)
-hex_some bytes (b ∷ items) left no_dash text fit none some = record { found = (fit, text); only = only }
+hex_some bytes (b ∷ items) left no_dash text fit none some = record {
+  found = (fit, text);
+  only = λ others rest fits end e.
+      let same = one_way (b ∷ items) others left rest fit fits none end (sym text ∙ pairs others rest e) in
+      λ i. Some (same.0 i, same.1 i);
+}
   where
-    only : OnlyHex bytes (Some (b ∷ items, left))
-    only [] rest fits end e = absurd (no_dash rest e)
-    only (c ∷ others) rest fits end e =
-        let same = one_way (b ∷ items) (c ∷ others) left rest fit fits none end (sym text ∙ e) in
-        let front = same.0 in
-        let behind = same.1 in
-        cc
+    pairs : (others rest : List ℕ) → bytes ≡ hex others ++ rest → bytes ≡ flat_map hex_pair others ++ rest
+    pairs [] rest e = absurd (no_dash rest e)
+    pairs (c ∷ others) rest e = e

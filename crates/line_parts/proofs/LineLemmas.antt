@@ -3,6 +3,7 @@ use Rattle.std.proofs.Common.{◌≡◌, ℕ, ◌+◌, ◌/◌, ◌%◌, ◌≤�
 use Rattle.std.specs.Prelude.{◌==◌, IfSome}
 use Rattle.std.specs.List.{onto_first, flat_map}
 use Rattle.std.proofs.lemmas.List.Splits.{slice_split-cons_yes, slice_split-cons_no}
+use Rattle.std.proofs.lemmas.Bool.{or_parts, or_from}
 use Rattle.std.proofs.lemmas.Bool.Decides.{nat_tests}
 use Rattle.std.proofs.lemmas.Option.{some_pair_parts}
 use Rattle.call_rules.specs.Grammar.{lines_of, number, fields, hex, hex_digit, hex_pair}
@@ -19,12 +20,8 @@ has_feed (b ∷ bs) = b == 10 || has_feed bs
 -- two lists without a line feed have none when they are joined
 pub plain : (xs ys : List ℕ) → has_feed xs ≡ false → has_feed ys ≡ false → has_feed (xs ++ ys) ≡ false
 plain [] ys p q = q
-plain (x ∷ xs) ys p q = step (x == 10) p (λ e. plain xs ys e q)
-  where
-    step : (t : Bool) → (t || has_feed xs) ≡ false → (has_feed xs ≡ false → has_feed (xs ++ ys) ≡ false)
-        → (t || has_feed (xs ++ ys)) ≡ false
-    step true e more = e
-    step false e more = more e
+plain (x ∷ xs) ys p q =
+    let parts = or_parts (x == 10) (has_feed xs) p in or_from (x == 10) _ parts.0 (plain xs ys parts.1 q)
 
 pub plain_number : (k : ℕ) → has_feed (number k) ≡ false
 plain_number = number_by_steps (λ k ds. has_feed ds ≡ false) (λ k low. grind (arith, nat_tests))
@@ -51,13 +48,9 @@ plain_hex (b ∷ bytes) = plain_pairs (b ∷ bytes)
 pub ended : (line rest : List ℕ) → has_feed line ≡ false → is_line_end rest ≡ true → lines_of (line ++ rest) ≡ line ∷ lines_behind rest
 ended [] [] p e = refl
 ended [] (c ∷ cs) p e = slice_split-cons_yes (λ b. b == 10) c cs e
-ended (b ∷ line) rest p e = step (b == 10) refl p (λ q. ended line rest q e)
-  where
-    step : (t : Bool) → (b == 10) ≡ t → (t || has_feed line) ≡ false
-        → (has_feed line ≡ false → lines_of (line ++ rest) ≡ line ∷ lines_behind rest)
-        → lines_of (b ∷ line ++ rest) ≡ (b ∷ line) ∷ lines_behind rest
-    step true is q more = cc
-    step false is q more = slice_split-cons_no (λ x. x == 10) b (line ++ rest) is ∙ ap (onto_first b) (more q)
+ended (b ∷ line) rest p e =
+    let parts = or_parts (b == 10) (has_feed line) p in
+    slice_split-cons_no (λ x. x == 10) b (line ++ rest) parts.0 ∙ ap (onto_first b) (ended line rest parts.1 e)
 
 pub record Split (bytes : List ℕ) : Type 0 where
   pub line : List ℕ
