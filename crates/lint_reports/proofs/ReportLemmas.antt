@@ -1,4 +1,6 @@
 -- Lines of findings and of reports, one after another.
+use Rattle.std.proofs.lemmas.Bool.Decides.{nat_tests}
+use Rattle.std.proofs.Common.{arith}
 use Rattle.std.proofs.Common.{◌≡◌, ℕ, ◌+◌, List, [], ◌∷◌, ◌++◌, map, sym, ap, ◌∙◌, append_assoc, codes}
 use Rattle.std.specs.List.{flat_map}
 use Rattle.std.proofs.lemmas.List.{append-nil}
@@ -16,9 +18,7 @@ use Rattle.lint_reports.specs.declared.report.FileReport.TheVariants.{Checked}
 -- two parts and a line feed were appended
 pub line_put : (old a b new first second : List ℕ) → a ≡ old ++ first → b ≡ a ++ second → new ≡ b ++ 10 ∷ []
     → new ≡ old ++ with_feed (first ++ second)
-line_put old a b new first second on_a on_b on_new =
-    on_new ∙ ap (λ xs. xs ++ 10 ∷ []) (on_b ∙ ap (λ xs. xs ++ second) on_a ∙ append_assoc old first second)
-    ∙ append_assoc old (first ++ second) (10 ∷ [])
+line_put old a b new first second on_a on_b on_new = grind (arith, nat_tests, append_assoc)
 
 -- it is the only one
 pub only_line : (old new line : List ℕ) → new ≡ old ++ with_feed line → new ≡ old ++ flat_map with_feed (line ∷ [])

@@ -1,4 +1,5 @@
 -- How many sources an input has, and how long they are.
+use Rattle.std.proofs.lemmas.Bool.Decides.{nat_tests}
 use Rattle.std.proofs.Common.{◌≡◌, ℕ, ◌+◌, ◌≤◌, Bool, true, false, List, [], ◌∷◌, length, map, refl, subst, arith}
 use Rattle.std.specs.List.{AllByRecursion, slice_split, onto_first}
 use Rattle.std.proofs.lemmas.List.{length-append, length-map}
@@ -10,16 +11,14 @@ use Rattle.lint_reports.proofs.SourceLemmas.{marked, unmarked}
 -- ---- Lines
 
 few_onto : (b : ℕ) (lines : List (List ℕ)) → length (onto_first b lines) ≤ length lines + 1
-few_onto b [] = omega arith
-few_onto b (line ∷ lines) = omega arith
+few_onto b x1 = grind (arith, nat_tests)
 
 few_lines : (bytes : List ℕ) → length (fed_lines bytes) ≤ length bytes
 few_lines [] = omega arith
 few_lines (b ∷ bytes) = grind (arith, few_lines bytes, few_onto b (fed_lines bytes))
 
 joined_onto : (b : ℕ) (lines : List (List ℕ)) → joined (onto_first b lines) ≡ b ∷ joined lines
-joined_onto b [] = refl
-joined_onto b (line ∷ lines) = refl
+joined_onto b x1 = grind (arith, nat_tests)
 
 joined_lines : (bytes : List ℕ) → joined (fed_lines bytes) ≡ bytes
 joined_lines [] = refl
@@ -28,13 +27,7 @@ joined_lines (b ∷ bytes) = grind (arith, joined_lines bytes, joined_onto b (fe
 -- ---- Sources
 
 pub few : (bytes : List ℕ) → length (sources bytes) ≤ length bytes + 1
-few bytes = omega (
-  arith,
-  length-map (slice_split is_mark (fed_lines bytes)) joined,
-  length-slice_split is_mark (fed_lines bytes),
-  count_by-le-length is_mark (fed_lines bytes),
-  few_lines bytes,
-)
+few bytes = grind (arith, nat_tests, length-map, length-slice_split, count_by-le-length, few_lines)
 
 abbrev AreShort : ℕ → List (List ℕ) → Type 0
 AreShort most = AllByRecursion (λ source. length source ≤ most)
@@ -44,9 +37,7 @@ still few many [] less are = tt
 still few many (x ∷ xs) less are = (omega (arith, less, are.0), still few many xs less are.1)
 
 short_onto : (line : List ℕ) (most : ℕ) (xs : List (List ℕ)) → AreShort most xs → AreShort (length line + most) (onto line xs)
-short_onto line most [] are = tt
-short_onto line most (x ∷ xs) are =
-    (omega (arith, are.0, length-append line x), still most (length line + most) xs (omega arith) are.1)
+short_onto line most x2 are = grind (arith, nat_tests, length-append, still, length)
 
 short_parts : (lines : List (List ℕ)) → AreShort (length (joined lines)) (map joined (slice_split is_mark lines))
 short_parts [] = (omega arith, tt)

@@ -1,8 +1,7 @@
 -- An input that is cut line by line.
 use Rattle.std.proofs.Common.{◌≡◌, ◌≢◌, ℕ, zero, suc, ◌+◌, ◌<◌, ◌≤◌, Bool, true, false, List, [], ◌∷◌, ◌++◌, length, map, take, drop, refl, sym, ap, ◌∙◌, arith, append_assoc, add-one, take-add, drop-drop}
-use Rattle.std.specs.Prelude.{◌==◌, ◌&&◌, ◌||◌, nat_eq, if◌then◌else◌, All}
+use Rattle.std.specs.Prelude.{◌==◌, if◌then◌else◌, All}
 use Rattle.std.specs.List.{slice_split, onto_first, slice_index}
-use Rattle.std.specs.Cmp.Lexicographic.{pointwise}
 use Rattle.std.proofs.Math.Seq.{take-append-add, drop-append-add, drop-length, take-append_seam, drop-append_seam}
 use Rattle.std.proofs.lemmas.Bool.Decides.{nat_tests}
 use Rattle.std.proofs.lemmas.List.{append-nil, length-append, length-drop, length-take-le, take-append-drop}
@@ -35,8 +34,7 @@ unfed_all (b ∷ (c ∷ bytes)) before some = unfed b (c ∷ bytes) (All-head ot
     ∙ ap (onto_first b) (unfed_all (c ∷ bytes) (All-tail other b (c ∷ bytes) before) (λ e. cc))
 
 some_taken : (bytes : List ℕ) (n : ℕ) → n < length bytes → take (suc n) bytes ≡ [] → bytes ≡ []
-some_taken [] n h none = refl
-some_taken (b ∷ bytes) n h none = cc
+some_taken x0 n h none = grind (arith, nat_tests)
 
 pub first_fed : (bytes : List ℕ) (n : ℕ) → n < length bytes → All other (take n bytes) → slice_index bytes n ≡ 10
     → IsFirstLine bytes (take (n + 1) bytes)
@@ -48,12 +46,7 @@ first_fed bytes n h before is = rw (add-one n) (record {
 })
 
 pub first_unfed : (bytes : List ℕ) → All other bytes → IsFirstLine bytes bytes
-first_unfed bytes before = record {
-  behind = [];
-  all = sym (append-nil bytes);
-  none = λ none. none;
-  first = unfed_all bytes before;
-}
+first_unfed bytes before = grind (arith, nat_tests, append-nil, unfed_all)
 
 -- ---- Sources
 
@@ -63,23 +56,19 @@ parts lines = map joined (slice_split is_mark lines)
 
 onto_joined : (line : List ℕ) (groups : List (List (List ℕ))) → 0 < length groups
     → map joined (onto_first line groups) ≡ onto line (map joined groups)
-onto_joined line [] some = absurd (omega arith)
-onto_joined line (group ∷ groups) some = refl
+onto_joined line x1 some = grind (arith, nat_tests)
 
 onto_none : (xs : List (List ℕ)) → onto [] xs ≡ xs
-onto_none [] = refl
-onto_none (x ∷ xs) = refl
+onto_none x0 = grind (arith, nat_tests)
 
 onto_both : (a b : List ℕ) (xs : List (List ℕ)) → onto a (onto b xs) ≡ onto (a ++ b) xs
-onto_both a b [] = refl
-onto_both a b (x ∷ xs) = ap (λ y. y ∷ xs) (sym (append_assoc a b x))
+onto_both a b x2 = grind (arith, nat_tests, append_assoc)
 
 pub marked : (line : List ℕ) (lines : List (List ℕ)) → is_mark line ≡ true → parts (line ∷ lines) ≡ [] ∷ parts lines
 marked line lines is = ap (map joined) (slice_split-cons_yes is_mark line lines is)
 
 pub unmarked : (line : List ℕ) (lines : List (List ℕ)) → is_mark line ≡ false → parts (line ∷ lines) ≡ onto line (parts lines)
-unmarked line lines is = ap (map joined) (slice_split-cons_no is_mark line lines is)
-    ∙ onto_joined line (slice_split is_mark lines) (omega (arith, length-slice_split is_mark lines))
+unmarked line lines is = grind (arith, nat_tests, map, slice_split-cons_no, onto_joined, length-slice_split)
 
 -- ---- Lines that have no percent sign
 
@@ -88,9 +77,7 @@ BeginUnmarked [] = Unit {0}
 BeginUnmarked (line ∷ lines) = is_mark line ≡ false
 
 no_mark : (b : ℕ) (line : List ℕ) → b ≢ 37 → is_mark (b ∷ line) ≡ false
-no_mark b line other =
-    let test : nat_eq b 37 ≡ false = grind (arith, nat_tests) in
-    ap (λ t. (t && pointwise nat_eq line (37 ∷ [])) || (t && pointwise nat_eq line (37 ∷ 10 ∷ []))) test
+no_mark b line other = grind (arith, nat_tests, false)
 
 begin_unmarked : (b : ℕ) (bytes : List ℕ) → b ≢ 37 → BeginUnmarked (fed_lines (b ∷ bytes))
 begin_unmarked b bytes other = by (b == 10) (fed_lines bytes)
@@ -103,9 +90,7 @@ begin_unmarked b bytes other = by (b == 10) (fed_lines bytes)
 -- a byte before lines that don't begin with a mark
 onto_unmarked : (b : ℕ) (lines : List (List ℕ)) → b ≢ 37 → BeginUnmarked lines
     → parts (onto_first b lines) ≡ onto (b ∷ []) (parts lines)
-onto_unmarked b [] other is = unmarked (b ∷ []) [] (no_mark b [] other)
-onto_unmarked b (line ∷ lines) other is = unmarked (b ∷ line) lines (no_mark b line other)
-    ∙ sym (onto_both (b ∷ []) line (parts lines)) ∙ ap (onto (b ∷ [])) (sym (unmarked line lines is))
+onto_unmarked b x1 other is = grind (arith, nat_tests, no_mark, onto_both)
 
 one_on : (b : ℕ) (bytes : List ℕ) → b ≢ 37 → (b ≢ 10 → BeginUnmarked (fed_lines bytes))
     → sources (b ∷ bytes) ≡ onto (b ∷ []) (sources bytes)
@@ -149,14 +134,7 @@ cut_none bytes = record { inside = omega arith; within = omega arith; are = sym 
 
 pub cut_on : (bytes : List ℕ) (all : List (List ℕ)) (rest : List ℕ) (seen n : ℕ) → Cut bytes all rest seen → IsPassed (drop seen rest) n
     → Cut bytes all rest (seen + n)
-cut_on bytes all rest seen n cut passed = record {
-  inside = cut.inside;
-  within = omega (arith, cut.within, length-drop seen rest, passed.within);
-  are = cut.are ∙ ap (λ xs. all ++ onto (take seen rest) xs) passed.are
-      ∙ ap (λ xs. all ++ xs) (onto_both (take seen rest) (take n (drop seen rest)) (sources (drop n (drop seen rest))))
-      ∙ ap (λ xs. all ++ onto xs (sources (drop n (drop seen rest)))) (sym (take-add seen n rest))
-      ∙ ap (λ xs. all ++ onto (take (seen + n) rest) (sources xs)) (drop-drop n seen rest);
-}
+cut_on bytes all rest seen n cut passed = grind (arith, nat_tests, length-drop, take, onto_both, drop, take-add, drop-drop)
 
 pub cut_last : (bytes : List ℕ) (all : List (List ℕ)) (rest : List ℕ) (seen : ℕ) → Cut bytes all rest seen → seen ≡ length rest
     → all ++ rest ∷ [] ≡ sources bytes
@@ -183,25 +161,14 @@ module _ (bytes : List ℕ) (all : List (List ℕ)) (rest : List ℕ) (seen : �
   some more none = more (omega (arith, cut.within, length-drop seen rest, ap length (is.none none)))
 
   behind_is : drop (seen + length line) rest ≡ is.behind
-  behind_is = ap (drop (seen + length line)) whole ∙ ap (λ k. drop (k + length line) (before ++ (line ++ is.behind))) (sym counted)
-      ∙ drop-append-add before (line ++ is.behind) (length line) ∙ drop-append_seam line is.behind
+  behind_is = grind (arith, nat_tests, drop, length, whole, counted, drop-append-add, drop-append_seam)
 
   seen_is : take (seen + length line) rest ≡ before ++ line
-  seen_is = ap (take (seen + length line)) whole ∙ ap (λ k. take (k + length line) (before ++ (line ++ is.behind))) (sym counted)
-      ∙ take-append-add before (line ++ is.behind) (length line) ∙ ap (λ xs. before ++ xs) (take-append_seam line is.behind)
+  seen_is = grind (arith, nat_tests, take, length, whole, counted, take-append-add, take-append_seam)
 
   pub cut_mark : (new : List (List ℕ)) → seen ≢ length rest → is_mark line ≡ true → new ≡ all ++ take seen rest ∷ []
       → Cut bytes new (drop (seen + length line) rest) 0
-  cut_mark new more mark added =
-      let one : sources (drop seen rest) ≡ [] ∷ sources is.behind
-      = ap parts (is.first (some more)) ∙ marked line (fed_lines is.behind) mark in
-      record {
-        inside = omega (arith, cut.inside, length-drop (seen + length line) rest);
-        within = omega arith;
-        are = cut.are ∙ ap (λ xs. all ++ onto before xs) one ∙ ap (λ x. all ++ x ∷ sources is.behind) (append-nil before)
-            ∙ sym (append_assoc all (before ∷ []) (sources is.behind)) ∙ ap (λ xs. xs ++ sources is.behind) (sym added)
-            ∙ ap (λ xs. new ++ xs) (ap sources (sym behind_is) ∙ sym (onto_none (sources (drop (seen + length line) rest))));
-      }
+  cut_mark new more mark added = grind (arith, nat_tests, drop, some, length-drop, length, append-nil, append_assoc, behind_is, onto_none)
 
   pub cut_line : seen ≢ length rest → is_mark line ≡ false → Cut bytes all rest (seen + length line)
   cut_line more mark =

@@ -1,11 +1,11 @@
-use Rattle.std.proofs.Common.{◌∙◌, sym, rules}
+use Rattle.std.proofs.lemmas.Bool.Decides.{nat_tests}
+use Rattle.std.proofs.Common.{arith}
+use Rattle.std.proofs.Common.{sym, rules}
 use Rattle.lint_reports.proofs.SourceLemmas.{cut_on, cut_last, cut_mark, cut_line, seen_within}
 use Rattle.lint_reports.proofs.sources.sources_of.Goals as goal
 
 pub returns-then-start-rest : goal.returns-then-start-rest
-returns-then-start-rest c =
-    let cut = cut_on _ _ _ c.lines.seen c.passed_len.result c.lines.invariant (rw c.after.ensures at c.passed_len.ensures) in
-    c.in_ok-add.ensures ∙ cut_last c.args.bytes.now c.lines.all.items c.lines.rest.now _ cut c.if-start-rest.true
+returns-then-start-rest c = grind (arith, nat_tests, cut_on, cut_last)
 
 pub overflow_add-end : goal.overflow_add-end
 overflow_add-end c =
