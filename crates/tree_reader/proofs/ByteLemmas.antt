@@ -1,32 +1,17 @@
 -- Runs of bytes, and the numbers that digits spell.
-use Rattle.std.proofs.Common.{◌≡◌, ◌≢◌, ℕ, zero, suc, ◌+◌, ◌-◌, ◌*◌, ◌^◌, ◌<◌, ◌≤◌, Bool, true, false, ◌&&◌, ◌==◌, List, [], ◌∷◌, length, take, drop, get_or, cond, refl, sym, ap, ◌∙◌, subst, arith, codes, add-one, drop-drop, inl, inr}
+use Rattle.std.proofs.Common.{◌≡◌, ◌≢◌, ℕ, zero, suc, ◌+◌, ◌-◌, ◌*◌, ◌^◌, ◌<◌, ◌≤◌, Bool, true, false, List, [], ◌∷◌, length, take, drop, get_or, cond, refl, sym, ap, ◌∙◌, subst, arith, codes, add-one, drop-drop, inl, inr}
 use Rattle.std.proofs.Math.Seq.{drop-cons}
 use Rattle.std.proofs.Math.ListN.{drop_of_length-le}
 use Rattle.std.specs.Prelude.{slice_range, bytes_eq}
+use Rattle.std.proofs.lemmas.Bool.{false_from_ne_true}
+use Rattle.std.proofs.lemmas.Slice.Eq.{bytes_eq-Decides}
 use Rattle.tree_rules.specs.Tokens.{Token, is_space, is_digit, is_name_start, is_name_byte, run, word, value, has_needless_zero, number_token, sign, Number, Word, LetKey, Other, Front, word_front, number_front, sign_front, front, Placed, placed, tokens_from}
 use Rattle.tree_reader.specs.declared.token.Seen.{Seen}
 use Rattle.tree_reader.specs.Seen.{IsSeen, IsBegin, IsNext, IsFront, IsUnsigned, BeginsUnsigned, tokens_at}
 use Rattle.tree_reader.specs.declared.token.Lexeme.{Lexeme}
 
-pub three : (xs : List ℕ) → length xs ≡ 3 → xs ≡ get_or xs 0 0 ∷ get_or xs 1 0 ∷ get_or xs 2 0 ∷ []
-three [] h = absurd (omega arith)
-three (a ∷ []) h = absurd (omega arith)
-three (a ∷ b ∷ []) h = absurd (omega arith)
-three (a ∷ b ∷ c ∷ []) h = refl
-three (a ∷ b ∷ c ∷ d ∷ xs) h = absurd (omega arith)
-
-and_false : (a : Bool) → (a && false) ≡ false
-and_false true = refl
-and_false false = refl
-
 pub not_three : (xs : List ℕ) → length xs ≢ 3 → bytes_eq xs (codes "let") ≡ false
-not_three [] h = refl
-not_three (a ∷ []) h = and_false (a == 108)
-not_three (a ∷ b ∷ []) h = ap (λ t. (a == 108) && t) (and_false (b == 101)) ∙ and_false (a == 108)
-not_three (a ∷ b ∷ c ∷ []) h = absurd (h refl)
-not_three (a ∷ b ∷ c ∷ d ∷ xs) h =
-    ap (λ t. (a == 108) && ((b == 101) && t)) (and_false (c == 116)) ∙ ap (λ t. (a == 108) && t) (and_false (b == 101))
-    ∙ and_false (a == 108)
+not_three xs other = false_from_ne_true _ (λ t. other (ap length ((bytes_eq-Decides xs (codes "let")).0 t)))
 
 value_grows : (n : ℕ) (ds : List ℕ) → n ≤ value n ds
 value_grows n [] = omega arith
@@ -42,12 +27,11 @@ value_over n i v ds h is over =
 
 run_take : (passes : ℕ → Bool) (xs : List ℕ) → take (length (run passes xs)) xs ≡ run passes xs
 run_take passes [] = refl
-run_take passes (x ∷ xs) = by (passes x) (run_take passes xs)
-  where
-    by : (b : Bool) → take (length (run passes xs)) xs ≡ run passes xs
-        → take (length (cond b (x ∷ run passes xs) [])) (x ∷ xs) ≡ cond b (x ∷ run passes xs) []
-    by true h = ap (λ ys. x ∷ ys) h
-    by false h = refl
+run_take passes (x ∷ xs) =
+    elim (passes x) as (λ b. take (length (cond b (x ∷ run passes xs) [])) (x ∷ xs) ≡ cond b (x ∷ run passes xs) []) [
+      | true ↦ ap (λ ys. x ∷ ys) (run_take passes xs)
+      | false ↦ refl
+    ]
 
 -- the part of a text that a run takes
 run_part : (passes : ℕ → Bool) (xs : List ℕ) (at : ℕ) → slice_range xs at (at + length (run passes (drop at xs))) ≡ run passes (drop at xs)
@@ -127,32 +111,20 @@ front_next bytes from at l begin f some within =
 
 -- ---- The front of a text
 
-front_digits : (b : ℕ) (bytes : List ℕ) → is_digit b ≡ true → front b bytes ≡ number_front (run is_digit (b ∷ bytes))
-unfolding front
-front_digits b bytes h = rw h refl
-
-front_word : (b : ℕ) (bytes : List ℕ) → is_digit b ≡ false → is_name_start b ≡ true
-    → front b bytes ≡ word_front (run is_name_byte (b ∷ bytes))
-unfolding front
-front_word b bytes h g = rw (h, g) refl
-
-front_sign : (b : ℕ) (bytes : List ℕ) → is_digit b ≡ false → is_name_start b ≡ false → front b bytes ≡ sign_front b
-unfolding front
-front_sign b bytes h g = rw (h, g) refl
-
 pub digits_at : (src : List ℕ) (at : ℕ) → at < length src → is_digit (get_or src at 0) ≡ true
     → front_of src at ≡ number_front (run is_digit (drop at src))
-digits_at src at h d = front_digits (get_or src at 0) (drop (suc at) src) d ∙ ap (λ xs. number_front (run is_digit xs)) (sym (drop-cons
-    src at 0 h))
+unfolding front
+digits_at src at h d = rw (drop-cons src at 0 h, d) refl
 
 pub word_at : (src : List ℕ) (at : ℕ) → at < length src → is_digit (get_or src at 0) ≡ false → is_name_start (get_or src at 0) ≡ true
     → front_of src at ≡ word_front (run is_name_byte (drop at src))
-word_at src at h d s = front_word (get_or src at 0) (drop (suc at) src) d s ∙ ap (λ xs. word_front (run is_name_byte xs)) (sym (drop-cons
-    src at 0 h))
+unfolding front
+word_at src at h d s = rw (drop-cons src at 0 h, d, s) refl
 
 sign_at : (src : List ℕ) (at : ℕ) → is_digit (get_or src at 0) ≡ false → is_name_start (get_or src at 0) ≡ false
     → front_of src at ≡ sign_front (get_or src at 0)
-sign_at src at d s = front_sign (get_or src at 0) (drop (suc at) src) d s
+unfolding front
+sign_at src at d s = rw (d, s) refl
 
 run_begins : (passes : ℕ → Bool) (src : List ℕ) (at : ℕ) → at < length src → passes (get_or src at 0) ≡ true
     → 0 < length (run passes (drop at src))
@@ -161,19 +133,12 @@ run_begins passes src at h d =
 
 -- the front of a text is not empty
 pub front_some : (src : List ℕ) (at : ℕ) → at < length src → 0 < (front_of src at).length
-front_some src at h = by (is_digit b) refl (is_name_start b) refl
+front_some src at h = by (is_digit (get_or src at 0)) refl (is_name_start (get_or src at 0)) refl
   where
-    b : ℕ
-    b = get_or src at 0
-
-    name_byte : is_name_start (get_or src at 0) ≡ true → is_name_byte (get_or src at 0) ≡ true
-    name_byte s = rw s refl
-
     by : (d : Bool) → is_digit (get_or src at 0) ≡ d → (s : Bool) → is_name_start (get_or src at 0) ≡ s → 0 < (front_of src at).length
-    by true d s start = subst (λ (f : Front). 0 < f.length) (sym (digits_at src at h d)) (run_begins is_digit src at h d)
-    by false d true start = subst (λ (f : Front). 0 < f.length) (sym (word_at src at h d start)) (run_begins is_name_byte src at h
-        (name_byte start))
-    by false d false start = subst (λ (f : Front). 0 < f.length) (sym (sign_at src at d start)) (omega arith)
+    by true d s start = rw (digits_at src at h d) (run_begins is_digit src at h d)
+    by false d true start = rw (word_at src at h d start) (run_begins is_name_byte src at h (rw start refl))
+    by false d false start = rw (sign_at src at d start) (omega arith)
 
 -- a first token that begins neither a number nor a name, and one that begins a name
 pub first_sign : (bytes : List ℕ) (from at : ℕ) → IsBegin bytes from at → is_digit (get_or bytes at 0) ≡ false

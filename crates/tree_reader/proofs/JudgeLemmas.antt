@@ -8,31 +8,25 @@ use Rattle.tree_rules.specs.Refusals.{most_nest}
 use Rattle.tree_rules.specs.Reading.{State, state, step, is_too_big, or_refused, judged, ended, refusal_from}
 use Rattle.tree_rules.specs.declared.machine.Open.{Open}
 use Rattle.tree_rules.specs.declared.machine.Mode.{Mode}
-use Rattle.tree_rules.specs.declared.machine.Mode.TheVariants.{AtLine, AtName, AtEquals, AtFactor, BehindFactor}
+use Rattle.tree_rules.specs.declared.machine.Mode.TheVariants.{AtLine}
 use Rattle.tree_rules.specs.declared.refused.Refused.{Refused}
 use Rattle.tree_rules.specs.declared.refused.Refused.TheVariants.{TooDeep, NumberTooBig}
 use Rattle.tree_reader.specs.Seen.{IsSeen, IsNext, tokens_at}
 use Rattle.tree_reader.specs.Steps.{like}
 use Rattle.tree_reader.specs.declared.token.Lexeme.{Lexeme}
 use Rattle.tree_reader.specs.declared.token.Seen.{Seen}
-use Rattle.tree_reader.specs.declared.token.Seen.TheVariants.{LetKey, Word, Number, TooBig, Plus, Minus, Star, LeftParen, RightParen, LeftBrace, RightBrace, Equals, Semicolon, Other}
+use Rattle.tree_reader.specs.declared.token.Seen.TheVariants.{Word, TooBig}
 
 -- all words are treated alike, and so are all numbers that are not too big
 step_word : (mode : Mode) (opens : List Open) (a b : List ℕ) → step (state mode opens) (tokens.Word a) ≡ step (state mode opens)
     (tokens.Word b)
 step_word AtLine opens a b = refl
-step_word AtName opens a b = refl
-step_word AtEquals opens a b = refl
-step_word AtFactor opens a b = refl
-step_word BehindFactor opens a b = refl
+step_word _ opens a b = refl
 
 step_number : (mode : Mode) (opens : List Open) (a b : ℕ) → step (state mode opens) (tokens.Number a) ≡ step (state mode opens)
     (tokens.Number b)
 step_number AtLine opens a b = refl
-step_number AtName opens a b = refl
-step_number AtEquals opens a b = refl
-step_number AtFactor opens a b = refl
-step_number BehindFactor opens a b = refl
+step_number _ opens a b = refl
 
 -- equal where the step and the size are equal
 judged_as : (s : State) (at : ℕ) (t u : Token) → step s t ≡ step s u → is_too_big t ≡ is_too_big u
@@ -48,22 +42,11 @@ too_big n h = let test : nat_le (2 ^ 64) n ≡ true = grind (arith, nat_tests) i
 
 pub judged_like : (s : State) (at : ℕ) (seen : Seen) (bytes : List ℕ) (t : Token) → IsSeen seen bytes t
     → judged s (record { at = at; token = t }) ≡ judged s (record { at = at; token = like seen })
-judged_like s at LetKey bytes t h = ap (λ u. judged s (record { at = at; token = u })) h
 judged_like s at Word bytes t h = ap (λ u. judged s (record { at = at; token = u })) h
     ∙ judged_as s at (tokens.Word bytes) (tokens.Word []) (step_word s.mode s.opens bytes []) refl
-judged_like s at (Number n) bytes t h = ap (λ u. judged s (record { at = at; token = u })) h
 judged_like s at TooBig bytes t h = ap (λ u. judged s (record { at = at; token = u })) h.1
     ∙ judged_as s at (tokens.Number h.0) (tokens.Number (2 ^ 64)) (step_number s.mode s.opens h.0 (2 ^ 64)) (too_big h.0 h.2)
-judged_like s at Plus bytes t h = ap (λ u. judged s (record { at = at; token = u })) h
-judged_like s at Minus bytes t h = ap (λ u. judged s (record { at = at; token = u })) h
-judged_like s at Star bytes t h = ap (λ u. judged s (record { at = at; token = u })) h
-judged_like s at LeftParen bytes t h = ap (λ u. judged s (record { at = at; token = u })) h
-judged_like s at RightParen bytes t h = ap (λ u. judged s (record { at = at; token = u })) h
-judged_like s at LeftBrace bytes t h = ap (λ u. judged s (record { at = at; token = u })) h
-judged_like s at RightBrace bytes t h = ap (λ u. judged s (record { at = at; token = u })) h
-judged_like s at Equals bytes t h = ap (λ u. judged s (record { at = at; token = u })) h
-judged_like s at Semicolon bytes t h = ap (λ u. judged s (record { at = at; token = u })) h
-judged_like s at Other bytes t h = ap (λ u. judged s (record { at = at; token = u })) h
+judged_like s at seen bytes t h = ap (λ u. judged s (record { at = at; token = u })) h
 
 abbrev after : ℕ → Result State Refused → List Placed → Option Refused
 after end r ts = elim r [ Err refused ↦ Some refused | Ok next ↦ refusal_from end next ts ]
