@@ -1,4 +1,5 @@
 -- The bytes of a region, before and after a change of its memory.
+use Rattle.std.proofs.lemmas.Bool.Decides.{nat_tests}
 use Rattle.std.proofs.Common.{◌≡◌, ℕ, zero, suc, ◌+◌, ◌-◌, ◌≤◌, List, [], ◌∷◌, ◌++◌, length, take, drop, replicate, refl, sym, ap, ◌∙◌, arith, length-append, length-take-le, append_assoc}
 use Rattle.std.proofs.Math.Seq.{take-length}
 use Rattle.std.proofs.lemmas.List.{replicate-append-replicate, length-replicate, length-drop, drop-drop, take-append-drop}
@@ -42,9 +43,7 @@ written_behind (suc low) k (suc from) xs ws e = ap (λ l. 0 ∷ l) (written_behi
 pub written_shown : (low n from : ℕ) (xs ws : List ℕ) → low ≤ from → from ≤ n → n ≤ low + length xs
     → take n (replicate low 0 ++ written_from xs (from - low) ws) ≡ written_from (take n (replicate low 0 ++ xs)) from ws
 written_shown low n from xs ws above within fits =
-    ap (take n) (written_behind low (from - low) from xs ws (omega arith))
-    ∙ written_first n from (replicate low 0 ++ xs) ws within
-    (omega (arith, length-append (replicate low 0) xs, length-replicate {A = ℕ} low 0))
+    grind (arith, nat_tests, written_behind, written_first, length-append, length-replicate)
 
 behind : (low k from : ℕ) (xs : List ℕ) → from ≡ low + k → drop from (replicate low 0 ++ xs) ≡ drop k xs
 behind zero k from xs e = let same : from ≡ k = omega arith in ap (λ i. drop i xs) same
@@ -60,8 +59,7 @@ within_first (suc n) (suc i) size (x ∷ xs) le = within_first n i size xs (omeg
 -- a part of the ready bytes is that part of the region
 pub part_shown : (low n from size : ℕ) (xs : List ℕ) → low ≤ from → from + size ≤ n
     → take size (drop (from - low) xs) ≡ take size (drop from (take n (replicate low 0 ++ xs)))
-part_shown low n from size xs above le =
-    sym (within_first n from size (replicate low 0 ++ xs) le ∙ ap (take size) (behind low (from - low) from xs (omega arith)))
+part_shown low n from size xs above le = grind (arith, nat_tests, within_first, behind)
 
 -- a list written in front of what was written before is one list with it
 pub written_joined : (i k : ℕ) (xs us ws : List ℕ) → k ≡ i + length us → k + length ws ≤ length xs

@@ -1,4 +1,5 @@
 -- Room and bytes in a block are split and joined. Assumes `Logic`.
+use Rattle.std.proofs.lemmas.Bool.Decides.{nat_tests}
 use Rattle.std.proofs.Common.{◌≡◌, ℕ, zero, suc, ◌+◌, ◌≤◌, List, [], ◌∷◌, ◌++◌, length, take, refl, sym, ◌∙◌, subst, arith, length-append, length-take, length-take-le, length-drop, take_all}
 use lib.ListN.{drop, take-append-drop}
 use seplogic.Ra.Ura.{Ura}
@@ -22,30 +23,10 @@ byte = ty_int w8
 -- a list that fits replaces as many bytes
 pub written_as : (xs ws : List ℕ) (i : ℕ) → i + length ws ≤ length xs
     → written_from xs i ws ≡ take i xs ++ (ws ++ drop (length ws) (drop i xs))
-written_as xs ws i fits =
-    let rest = drop (length ws) (drop i xs) in
-    take_all (length xs) (take i xs ++ (ws ++ rest))
-    (omega (
-      arith,
-      length-append (take i xs) (ws ++ rest),
-      length-append ws rest,
-      length-take-le i xs (omega arith),
-      length-drop i xs,
-      length-drop (length ws) (drop i xs),
-    ))
+written_as xs ws i fits = grind (arith, nat_tests, take_all, length-append, length-take-le, length-drop)
 
 pub written_long : (xs ws : List ℕ) (i : ℕ) → length (written_from xs i ws) ≡ length xs
-written_long xs ws i =
-    let last = drop (length ws) (drop i xs) in
-    omega (
-      arith,
-      length-take (length xs) (take i xs ++ (ws ++ last)),
-      length-append (take i xs) (ws ++ last),
-      length-append ws last,
-      length-take i xs,
-      length-drop i xs,
-      length-drop (length ws) (drop i xs),
-    )
+written_long xs ws i = grind (arith, nat_tests, length-take, length-append, length-drop)
 
 module _ {M : Type 1} {𝓤 : Ura M} (𝓛 : Logic 𝓤) where
   open 𝓛 use {H}

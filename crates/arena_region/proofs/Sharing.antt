@@ -1,4 +1,6 @@
 -- A `&` to a block's memory is made where one to a byte is, and what a block owns and lends may cross threads. Assumes `Logic`.
+use Rattle.std.proofs.lemmas.Bool.Decides.{nat_tests}
+use Rattle.std.proofs.Common.{arith}
 use Rattle.std.specs.Prelude.{ℕ, ◌+◌, List, [], ◌∷◌}
 use seplogic.Ra.Ura.{Ura}
 use base.Fraction.{full_share}
@@ -52,9 +54,7 @@ bytes-common [] b o κ = tt
 bytes-common (x ∷ xs) b o κ = (u8-sync.shared x b o κ, bytes-common xs b (o + 1) κ)
 
 pub store-keyless : (p : Ptr) (n : ℕ) (xs : List ℕ) → Keyless (store_owns p n xs)
-store-keyless (block_ptr b o) n xs = (tt, (bytes-keyless xs b (o + n), tt))
-store-keyless null_ptr n xs = tt
+store-keyless p n xs = grind (arith, nat_tests, bytes-keyless)
 
 pub store-common : (p : Ptr) (n : ℕ) (xs : List ℕ) → Common (store_lends p n xs)
-store-common (block_ptr b o) n xs κ = (tt, bytes-common xs b (o + n) κ)
-store-common null_ptr n xs κ = tt
+store-common p n xs h = grind (arith, nat_tests, bytes-common)

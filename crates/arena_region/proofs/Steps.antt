@@ -1,7 +1,8 @@
 -- Steps that the walks over a block's memory share. Assumes `Logic`.
-use Rattle.std.proofs.Common.{◌≡◌, List, [], ◌∷◌, ◌++◌, refl, sym, ap, subst}
+use Rattle.std.proofs.lemmas.Bool.Decides.{nat_tests}
+use Rattle.std.proofs.Common.{arith, ◌≡◌, List, [], ◌∷◌, ◌++◌, refl, sym, ap, subst}
 use seplogic.Ra.Ura.{Ura}
-use lib.Dec.{T, lit<}
+use lib.Dec.{T}
 use mir.Val.{Val, vstruct, vcons, vnil, of_list, has_ty, WT}
 use mir.Syntax.{Body, seq}
 use base.Fml.{Fml}
@@ -9,7 +10,7 @@ use types.Logic.{Logic}
 use types.Kit.{Goal, Seq, Step, step, Item, ‵, ◌$◌, drop, move, use0, fsplit, fjoin, fpick, fpack, feq_l, feq_i}
 use denote.RattleType.{RattleType, Valss}
 use denote.Param.{layout}
-use denote.RawPtr.{Ptr, RawPtr, block_ptr, null_ptr, ptr_val}
+use denote.RawPtr.{Ptr, RawPtr, ptr_val}
 use denote.Steps.{nothing}
 use denote.Shadow.{makes_shadow}
 use denote.Struct.Owning.{shape as fields_of}
@@ -65,8 +66,7 @@ abbrev pub three : Val → Val → Val → Val
 three u v w = vstruct (vcons u (vcons v (vcons w vnil)))
 
 pub word-good : (p : Ptr) → T (has_ty (layout Pointer) (word p)) × WT (word p)
-word-good (block_ptr b o) = (tt, (tt, tt))
-word-good null_ptr = (tt, (record { fits = lit< tt }, tt))
+word-good p = grind (arith, nat_tests)
 
 -- the machine values of all parameters, in one list
 abbrev pub flat : List (List Val) → List Val
