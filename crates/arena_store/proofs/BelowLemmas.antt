@@ -1,4 +1,5 @@
 -- Which of a table's bases is the last at or below an address.
+use Rattle.std.proofs.lemmas.Bool.Decides.{nat_tests}
 use Rattle.std.proofs.Common.{◌≡◌, ℕ, zero, suc, ◌+◌, ◌-◌, ◌*◌, ◌^◌, ◌≤◌, ◌<◌, ◌/◌, arith, List, length, inl, inr, ap, ◌∙◌, Bool, true, false, refl, leb-true, leb-false}
 use Rattle.std.specs.Prelude.{slice_index, nat_le}
 use Rattle.std.specs.List.Sorted.{IsStrictlyIncreasing}
@@ -38,13 +39,7 @@ pub record IsSearch (bases : List ℕ) (addr low high s : ℕ) : Type 0 where
   pub cost : IsCost s (high - low) (length bases)
 
 pub search_first : (bases : List ℕ) (addr n s : ℕ) → n ≡ length bases → s ≡ 0 → IsSearch bases addr 0 n s
-search_first bases addr n s all none = record {
-  order = omega arith;
-  within = omega (arith, all);
-  under = λ k below. absurd (omega arith);
-  over = λ k from below. absurd (omega (arith, all));
-  cost = let rest : n - 0 ≡ length bases = omega (arith, all) in rw (rest, none) (record { steps = omega arith; left = omega arith });
-}
+search_first bases addr n s all none = grind (arith, nat_tests)
 
 module _ (bases : List ℕ) (addr low high s t : ℕ) (is : IsSearch bases addr low high s) (some : low < high) (next : t ≡ suc s)
     (up : IsStrictlyIncreasing bases) where
@@ -71,14 +66,7 @@ module _ (bases : List ℕ) (addr low high s t : ℕ) (is : IsSearch bases addr 
 
 pub search_done : (bases : List ℕ) (addr low high s : ℕ) → IsSearch bases addr low high s → high ≤ low
     → IsSplit bases addr low × (2 ^ s ≤ 2 * length bases + 1)
-search_done bases addr low high s is done = (
-  record {
-    within = omega (arith, is.within, is.order);
-    low = is.under;
-    above = λ k from below. is.over k (omega arith) below;
-  },
-  is.cost.steps,
-)
+search_done bases addr low high s is done = grind (arith, nat_tests)
 
 -- The split of the first i bases: n of them are at most the address.
 pub record IsSplitBelow (bases : List ℕ) (addr i n : ℕ) : Type 0 where
@@ -87,49 +75,22 @@ pub record IsSplitBelow (bases : List ℕ) (addr i n : ℕ) : Type 0 where
   pub above : (k : ℕ) → n ≤ k → k < i → addr < slice_index bases k
 
 pub split_first : (bases : List ℕ) (addr : ℕ) → slice_index bases 0 ≤ addr → IsSplitBelow bases addr 1 1
-split_first bases addr first = record {
-  within = omega arith;
-  low = λ k below. let same : k ≡ 0 = omega arith in rw same first;
-  above = λ k from below. absurd (omega arith);
-}
+split_first bases addr first = grind (arith, nat_tests)
 
 -- one more base, which is at most the address
 pub split_more : (bases : List ℕ) (addr i n : ℕ) → IsStrictlyIncreasing bases → i < length bases → slice_index bases i ≤ addr
     → IsSplitBelow bases addr i n → IsSplitBelow bases addr (i + 1) (n + 1)
-split_more bases addr i n up below under is = elim (cases_lt n i) [
-  | inr all ↦
-      let same : n ≡ i = omega (arith, is.within) in
-      record {
-        within = omega (arith, is.within);
-        low = λ k less. elim (cases_lt k i) [
-          | inl before ↦ is.low k (omega arith)
-          | inr at ↦ (let here : k ≡ i = omega arith in rw here under)
-        ];
-        above = λ k from less. absurd (omega arith);
-      }
-  | inl some ↦ absurd (omega (arith, is.above n (omega arith) (omega arith), rises bases n i up (omega arith) below))
-]
+split_more bases addr i n up below under is = grind (arith, nat_tests, cases_lt, rises)
 
 -- one more base, which is above the address
 pub split_past : (bases : List ℕ) (addr i n : ℕ) → addr < slice_index bases i → IsSplitBelow bases addr i n
     → IsSplitBelow bases addr (i + 1) n
-split_past bases addr i n over is = record {
-  within = omega (arith, is.within);
-  low = is.low;
-  above = λ k from less. elim (cases_lt k i) [
-    | inl before ↦ is.above k from (omega arith)
-    | inr at ↦ (let here : k ≡ i = omega arith in rw here over)
-  ];
-}
+split_past bases addr i n over is = grind (arith, nat_tests, cases_lt)
 
 -- the last base is read first
 pub split_last : (bases : List ℕ) (addr n b : ℕ) → IsStrictlyIncreasing bases → 0 < length bases → n ≡ length bases
     → b ≡ slice_index bases (n - 1) → b ≤ addr → IsSplit bases addr n
-split_last bases addr n b up some all at under = record {
-  within = omega (arith, all);
-  low = λ k below. omega (arith, at, under, rises bases k (n - 1) up (omega arith) (omega (arith, all)));
-  above = λ k from below. absurd (omega (arith, all));
-}
+split_last bases addr n b up some all at under = grind (arith, nat_tests, rises)
 
 -- the next base is read
 pub split_next : (bases : List ℕ) (addr i n b : ℕ) → IsStrictlyIncreasing bases → i < length bases → b ≡ slice_index bases i
@@ -143,8 +104,4 @@ split_next bases addr i n b up below at is = go (nat_le b addr) refl
 
 -- the last base that is at most the address
 pub last_split : (bases : List ℕ) (addr n : ℕ) → IsSplit bases addr n → 0 < n → IsLastBelow bases addr (n - 1)
-last_split bases addr n is some = record {
-  within = omega (arith, is.within, some);
-  low = is.low (n - 1) (omega (arith, some));
-  above = λ k after below. is.above k (omega (arith, after)) below;
-}
+last_split bases addr n is some = grind (arith, nat_tests)

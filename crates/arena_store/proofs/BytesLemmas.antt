@@ -20,8 +20,7 @@ byte-bytes f addr (suc n) (suc i) below = byte-bytes f (addr + 1) n i (omega ari
 
 pub no_bytes : (f : ℕ → ℕ) (addr n : ℕ) → n ≡ 0 → bytes_from f addr n ≡ []
 unfolding bytes_from
-no_bytes f addr zero none = refl
-no_bytes f addr (suc n) none = absurd (omega arith)
+no_bytes f addr n none = grind (arith, nat_tests)
 
 -- a part of a list that has the bytes
 pub bytes_part : (f : ℕ → ℕ) (list : List ℕ) (addr k n : ℕ) → k + n ≤ length list

@@ -1,4 +1,5 @@
 -- Copies between the parts of a table.
+use Rattle.std.proofs.lemmas.Bool.Decides.{nat_tests}
 use Rattle.std.proofs.Common.{◌≡◌, ℕ, ◌-◌, ◌<◌, sym, refl, ◌∙◌, arith, List, ◌++◌, length, get_or, take, drop}
 use Rattle.std.specs.Prelude.{slice_set}
 use Rattle.std.proofs.lemmas.List.{get_or_append_left, get_or-append_right, set-append_left, set-append_right}
@@ -9,8 +10,7 @@ use Rattle.arena_store.specs.declared.table.Kept.{Kept}
 pub copied_same : (kept : List Kept) (i j : ℕ) (k : Kept) (new : List ℕ) (from to n : ℕ) → i ≡ j → k ≡ get_or kept j k
     → new ≡ written_from k.bytes.items to (take n (drop from k.bytes.items))
     → CopiesKept kept (slice_set kept j (record { bytes = bytes new k.bytes.low; used = k.used })) i j from to n
-copied_same kept i j k new from to n same at is =
-    record { source = k; target = k; at_source = rw same at; at_target = at; table = rw is refl }
+copied_same kept i j k new from to n same at is = grind (arith, nat_tests)
 
 -- from the first part of the table to the second, and from the second to the first
 pub copied_up : (kept low high : List Kept) (i j : ℕ) (s t : Kept) (new : Bytes) (from to n : ℕ) → kept ≡ low ++ high → length low ≡ j

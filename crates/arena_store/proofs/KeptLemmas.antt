@@ -1,5 +1,6 @@
 -- The table of the chunks but the newest, by its parts.
-use Rattle.std.proofs.Common.{◌≡◌, ℕ, zero, suc, ◌+◌, ◌-◌, ◌<◌, ◌≤◌, ap, sym, refl, subst, ◌∙◌, arith, List, [], ◌∷◌, ◌++◌, true, false, Bool, length, get_or, take, take_all, drop, length-take, min}
+use Rattle.std.proofs.lemmas.Bool.Decides.{nat_tests}
+use Rattle.std.proofs.Common.{◌≡◌, ℕ, zero, suc, ◌+◌, ◌-◌, ◌<◌, ◌≤◌, ap, sym, refl, subst, ◌∙◌, arith, List, [], ◌∷◌, ◌++◌, true, Bool, length, get_or, take, take_all, drop, length-take, min}
 use Rattle.std.specs.Prelude.{slice_index}
 use Rattle.std.specs.List.{All, list_any, sum_by}
 use Rattle.std.proofs.lemmas.Bool.{or_right}
@@ -33,9 +34,7 @@ chunks_push older (b ∷ bases) (x ∷ kept) base k same = chunks_push (chunk_of
 -- a chunk whose cursor is within it is given by its parts
 chunk_kept : (c : StoredChunk) (used : ℕ) → IsOrdered c → used ≡ used_length (stored_chunk c)
     → c ≡ chunk_of c.base (record { bytes = c.bytes; used = used })
-chunk_kept c used ordered is =
-    let cursor : c.cursor ≡ c.base + (length c.bytes.items - used) = omega (arith, is, ordered.low, ordered.high) in
-    λ i. record { base = c.base; cursor = cursor i; bytes = c.bytes }
+chunk_kept c used ordered is = grind (arith, nat_tests)
 
 chunks_past : (n : ℕ) (older : List StoredChunk) (bases : List ℕ) (kept : List Kept) → length bases ≡ length kept
     → drop (length kept + n) (chunks_onto older bases kept) ≡ drop n older
@@ -166,24 +165,12 @@ module _ (f : StoredChunk → ℕ) (g : Kept → ℕ) (each : (b : ℕ) (k : Kep
     (kept : List Kept) (spare : ℕ) (t : Chunks) (table : IsTable bases kept)
     (view : record { items = chunks_onto [] bases kept; spare = spare } ≡ t) (items : List Kept) (same : items ≡ kept) (i : ℕ) where
   pub sum_next : (k : Kept) → i < length items → k ≡ get_or items i k → sum_by g (take i items) + g k ≤ sum_by f t.items
-  sum_next k below at = omega (
-    arith,
-    sum_onto f g each [] bases kept table,
-    ap (λ (t : Chunks). sum_by f t.items) view,
-    sum_by_more_le g items i k below,
-    ap (sum_by g) same,
-    ap g at,
-  )
+  sum_next k below at = grind (arith, nat_tests, sum_onto, sum_by_more_le)
 
   pub sum_whole : length items ≤ i → sum_by g (take i items) ≡ sum_by f t.items
-  sum_whole over = ap (sum_by g) (take_all i items over ∙ same) ∙ omega (arith, sum_onto f g each [] bases kept table)
-      ∙ ap (λ (t : Chunks). sum_by f t.items) view
+  sum_whole over = grind (arith, nat_tests, take_all, sum_onto)
 
 -- ---- Which of them has a block
-
-pub none_more : (p : StoredChunk → Bool) (items : List StoredChunk) (i : ℕ) (c : StoredChunk) → IsOldest items i c → p c ≡ false
-    → list_any p (oldest i items) ≡ false → list_any p (oldest (i + 1) items) ≡ false
-none_more p items i c is fails before = ap (list_any p) is ∙ rw (fails, before) refl
 
 pub one_has : (p : StoredChunk → Bool) (items : List StoredChunk) (i : ℕ) (c : StoredChunk) → IsOldest items i c → p c ≡ true
     → list_any p items ≡ true

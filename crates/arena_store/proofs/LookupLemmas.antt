@@ -145,16 +145,11 @@ module _ (bases : List ℕ) (kept : List Kept) (spare : ℕ) (t : Chunks) (table
     (view : record { items = chunks_onto [] bases kept; spare = spare } ≡ t) where
   -- some begins at or below an address in use
   pub has_below_in : (addr n : ℕ) → HasPartIn t.items addr n → HasBelow bases addr
-  has_below_in addr n has = elim (any_below addr n [] bases kept table.pairs
-      (subst (λ (l : List StoredChunk). HasPartIn l addr n) (sym (items_is bases kept spare t table view)) has)) [
-        | inl none ↦ absurd none
-        | inr any ↦ any
-      ]
+  has_below_in addr n has = grind (arith, nat_tests, any_below, items_is)
 
   -- no chunk has an address that is below them all
   pub no_number : (addr : ℕ) → IsSplit bases addr 0 → number_in addr t.items ≡ None
-  no_number addr is = ap (number_in addr) (sym (items_is bases kept spare t table view))
-      ∙ none_below addr bases kept table.pairs (λ k below. is.above k (omega arith) below)
+  no_number addr is = grind (arith, nat_tests, items_is, none_below)
 
 module _ (bases : List ℕ) (kept : List Kept) (spare : ℕ) (t : Chunks) (table : IsTable bases kept)
     (view : record { items = chunks_onto [] bases kept; spare = spare } ≡ t) (addr i at : ℕ) (last : IsLastBelow bases addr i)
@@ -183,9 +178,7 @@ module _ (bases : List ℕ) (kept : List Kept) (spare : ℕ) (t : Chunks) (table
         found k here = has_at addr n i [] bases kept k table.pairs last here (subst (λ (l : List StoredChunk). HasPartIn l addr n) (sym same) has)
 
     pub found_part : (k : Kept) (list : List ℕ) → k ≡ get_or kept i k → list ≡ take n (drop at k.bytes.items) → list ≡ part_in t.items addr n
-    found_part k list here is =
-        is ∙ ap (λ (j : ℕ). take n (drop j k.bytes.items)) offset ∙ sym (part_at addr n bases kept i k table.pairs last here)
-        ∙ ap (λ (l : List StoredChunk). part_in l addr n) same
+    found_part k list here is = grind (arith, nat_tests, part_at, same)
 
     pub found_with : (k : Kept) (list : List ℕ) → k ≡ get_or kept i k
         → chunks_onto [] bases (slice_set kept i (kept_with k at list)) ≡ with_part_in t.items addr list

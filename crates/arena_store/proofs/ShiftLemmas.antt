@@ -1,4 +1,5 @@
 -- A range of a list moved to another place of it, part by part.
+use Rattle.std.proofs.lemmas.Bool.Decides.{nat_tests}
 use Rattle.std.proofs.Common.{◌≡◌, ℕ, ◌+◌, ◌-◌, ◌<◌, ◌≤◌, ap, sym, ◌∙◌, arith, List, length, take, drop, get_or}
 use native.Mathlib.Numerals.{unary_clauses}
 use Rattle.std.proofs.lemmas.Bool.{cases_lt}
@@ -37,9 +38,7 @@ ruleset by_index = (length-part, spliced_below, spliced_in, spliced_past, part_i
 
 -- A move keeps the length.
 length-moved : (xs : List ℕ) (from to n : ℕ) → from + n ≤ length xs → to + n ≤ length xs → length (moved xs from to n) ≡ length xs
-length-moved xs from to n source target =
-    let sized = length-part xs from n source in
-    length-splice xs (take n (drop from xs)) to (omega (arith, sized))
+length-moved xs from to n source target = grind (arith, nat_tests, length-part, length-splice)
 
 -- Storing a vector replaces a range.
 stored : (xs new : List ℕ) (at : ℕ) → at + length new ≤ length xs → put_chunk at xs new ≡ splice xs at new
@@ -48,9 +47,7 @@ stored xs new at fits = grind (arith, common_steps, put_chunk_is)
 -- Reading a vector and storing it moves its bytes.
 pub moved_part : (xs : List ℕ) (from to n : ℕ) → from + n ≤ length xs → to + n ≤ length xs
     → put_chunk to xs (chunk from n xs) ≡ moved xs from to n
-moved_part xs from to n source target =
-    let sized = length-part xs from n source in
-    stored xs (take n (drop from xs)) to (omega (arith, sized))
+moved_part xs from to n source target = grind (arith, nat_tests, length-part, stored)
 
 -- Two vectors, of the first and of the last bytes, move all that they cover, if both are read before either is stored.
 pub moved_ends : (xs : List ℕ) (from to n k : ℕ) → from + n ≤ length xs → to + n ≤ length xs → k ≤ n → n ≤ k + k

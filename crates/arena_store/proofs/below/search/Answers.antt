@@ -1,3 +1,4 @@
+use Rattle.std.proofs.lemmas.Bool.Decides.{nat_tests}
 use Rattle.std.proofs.Common.{◌≡◌, ◌+◌, ◌-◌, ◌/◌, arith, ap, sym, ◌∙◌}
 use Rattle.std.specs.Prelude.{slice_index}
 use Rattle.arena_store.proofs.BelowLemmas.{search_first, search_above, search_below, search_done}
@@ -31,6 +32,4 @@ loop-low-preserved g c =
     )
 
 pub returns : goal.returns
-returns g c =
-    let done = search_done _ _ _ _ _ c.loop-low.invariant.1 c.loop-low-test.false in
-    record { split = done.0; rises = c.loop-low.invariant.0; last = c.loop-low.invariant.2; cost = done.1 }
+returns g c = grind (arith, nat_tests, search_done)

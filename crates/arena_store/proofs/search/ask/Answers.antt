@@ -1,3 +1,4 @@
+use Rattle.std.proofs.lemmas.Bool.Decides.{nat_tests}
 use Rattle.std.proofs.Common.{◌≡◌, ◌/◌, ap, sym, ◌∙◌, arith, ◌∷◌, length, drop}
 use Rattle.std.proofs.lemmas.List.{length-replicate}
 use Rattle.arena_rules.proofs.SearchLemmas.{entries_pass, entries_next, entries_end, length-entries}
@@ -18,10 +19,7 @@ size g c = ap length c.in-Some-request_region.ensures.zeros ∙ length-replicate
 left : (g : Over) (c : goal.In-Some-request_region g)
     → drop c.loop-tried.refused (entries c.args.base c.args.layout.size c.args.layout.align c.args.first c.args.least)
     ≡ (c.args.base, c.in-Some.size) ∷ entries c.args.base c.args.layout.size c.args.layout.align (c.loop-tried.tried / 2) c.args.least
-left g c =
-    c.loop-tried.invariant.left
-    ∙ entries_next c.args.base c.args.layout.size c.args.layout.align c.loop-tried.tried c.args.least (c.args.base, c.in-Some.size)
-    (omega arith) c.requires c.loop-tried-test.true (sym c.in-Some.ensures.value)
+left g c = grind (arith, nat_tests, entries_next)
 
 pub returns-in-Some-request_region-clause-granted : goal.returns-in-Some-request_region-clause-granted
 returns-in-Some-request_region-clause-granted g c =
@@ -38,12 +36,7 @@ returns-in-Some-request_region-clause-asked g c =
 -- ---- The next size is tried
 
 pub overflow_add-refused : goal.overflow_add-refused
-overflow_add-refused g c =
-    omega (
-      arith,
-      c.loop-tried.invariant.within,
-      length-entries c.args.base c.args.layout.size c.args.layout.align c.args.first c.args.least,
-    )
+overflow_add-refused g c = grind (arith, nat_tests, length-entries)
 
 pub loop-tried-preserved : goal.loop-tried-preserved
 loop-tried-preserved g c = elim c.match-possible_size.branch [
@@ -71,6 +64,4 @@ returns-clause-granted g c =
     (asking_over _ _ _ _ _ (rw none at c.loop-tried.invariant)).0
 
 pub returns-clause-asked : goal.returns-clause-asked
-returns-clause-asked g c =
-    let none = entries_end c.args.base c.args.layout.size c.args.layout.align c.loop-tried.tried c.args.least c.loop-tried-test.false in
-    (asking_over _ _ _ _ _ (rw none at c.loop-tried.invariant)).1
+returns-clause-asked g c = grind (arith, nat_tests, entries_end, asking_over)

@@ -1,6 +1,6 @@
-use Rattle.std.proofs.Common.{◌≡◌, ℕ, ◌+◌, ◌^◌, ◌<◌, max, ap, subst, ◌∙◌, refl, arith, []}
+use Rattle.std.proofs.lemmas.Bool.Decides.{nat_tests}
+use Rattle.std.proofs.Common.{◌≡◌, ℕ, ◌+◌, refl, arith, []}
 use Rattle.std.specs.Option.{option_map_or}
-use Rattle.arena_rules.specs.Rounding.{up}
 use Rattle.arena_rules.specs.Search.{asked_above, entries, requests}
 use Rattle.arena_rules.proofs.RoundingLemmas.{max_power, layout_power, pow_power}
 use Rattle.arena_rules.proofs.SearchLemmas.{asked_above_is, asked_above-past_end}
@@ -15,11 +15,7 @@ next_base-requires-clause-power g c = rw c.max.ensures
 all : (g : Over) (c : goal.After-ask g) → asked_above (option_map_or {T = ℕ} {U = ℕ} (λ e. e + 48) c.args.end 4096) c.args.newest_size
     c.args.layout.size c.args.layout.align
     ≡ entries c.in-Some.base c.args.layout.size c.args.layout.align c.max-in-Some.result c.max-least.result
-all g c =
-    let floor = option_map_or {T = ℕ} {U = ℕ} (λ e. e + 48) c.args.end 4096 in
-    let unit : max c.max.result 16 ≡ max c.args.layout.align 16 = omega arith in
-    asked_above_is floor c.args.newest_size c.args.layout.size c.args.layout.align c.in-Some.base c.max-in-Some.result c.max-least.result
-    (c.in-Some.ensures.1 ∙ ap (up floor) unit) c.max-least.ensures c.max-in-Some.ensures
+all g c = grind (arith, nat_tests, asked_above_is)
 
 pub returns-in-Some-clause-granted : goal.returns-in-Some-clause-granted
 returns-in-Some-clause-granted g c = rw (all g c) c.ask.ensures.granted
@@ -30,11 +26,7 @@ returns-in-Some-clause-asked g c = rw (all g c) c.ask.ensures.asked
 nothing : (g : Over) (c : goal.In-None g)
     → asked_above (option_map_or {T = ℕ} {U = ℕ} (λ e. e + 48) c.args.end 4096) c.args.newest_size c.args.layout.size c.args.layout.align
     ≡ []
-nothing g c =
-    let floor = option_map_or {T = ℕ} {U = ℕ} (λ e. e + 48) c.args.end 4096 in
-    let unit : max c.max.result 16 ≡ max c.args.layout.align 16 = omega arith in
-    asked_above-past_end floor c.args.newest_size c.args.layout.size c.args.layout.align
-    (subst (λ (a : ℕ). up floor a < 2 ^ 64 → ⊥) unit c.in-None.ensures)
+nothing g c = grind (arith, nat_tests, asked_above-past_end)
 
 pub returns-in-None-clause-granted : goal.returns-in-None-clause-granted
 returns-in-None-clause-granted g c = rw (nothing g c) refl

@@ -1,3 +1,4 @@
+use Rattle.std.proofs.lemmas.Bool.Decides.{nat_tests}
 use Rattle.std.proofs.Common.{◌≡◌, ◌+◌, ◌-◌, arith, ap, get_or, length}
 use Rattle.arena_store.specs.declared.table.Kept.{Kept}
 use Rattle.arena_store.proofs.ShiftLemmas.{moved_in_last}
@@ -22,20 +23,7 @@ returns-then-i-j c =
     (omega (arith, to, c.requires.target.range k at))))
 
 pub returns-then-i-j-2 : goal.returns-then-i-j-2
-returns-then-i-j-2 c =
-    copied_up _ c.split_at_mut-first.result.0.now c.split_at_mut-first.result.1.now c.args.i c.args.j
-    (get_or c.split_at_mut-first.result.0.now c.args.i c.index-first-i.result)
-    (get_or c.split_at_mut-first.result.1.now 0 c.index-rest-0.result) c.copy_bytes.new.target
-    c.args.from c.args.to c.args.n c.split_at_mut-first.ensures.value c.split_at_mut-first.ensures.front_len c.if-i-j-2.true
-    (ap (get_or c.split_at_mut-first.result.0.now c.args.i) c.index-first-i.is)
-    (ap (get_or c.split_at_mut-first.result.1.now 0) c.index-rest-0.is) c.copy_bytes.ensures
+returns-then-i-j-2 c = grind (arith, nat_tests, copied_up, get_or)
 
 pub returns-else-i-j-2 : goal.returns-else-i-j-2
-returns-else-i-j-2 c =
-    copied_down _ c.split_at_mut-first-else-i-j-2.result.0.now c.split_at_mut-first-else-i-j-2.result.1.now c.args.i c.args.j
-    (get_or c.split_at_mut-first-else-i-j-2.result.1.now 0 c.index-rest-0-else-i-j-2.result)
-    (get_or c.split_at_mut-first-else-i-j-2.result.0.now c.args.j c.index-first-j.result) c.copy_bytes-else-i-j-2.new.target
-    c.args.from c.args.to c.args.n c.split_at_mut-first-else-i-j-2.ensures.value c.split_at_mut-first-else-i-j-2.ensures.front_len
-    (omega (arith, c.if-i-j.false, c.if-i-j-2.false))
-    (ap (get_or c.split_at_mut-first-else-i-j-2.result.1.now 0) c.index-rest-0-else-i-j-2.is)
-    (ap (get_or c.split_at_mut-first-else-i-j-2.result.0.now c.args.j) c.index-first-j.is) c.copy_bytes-else-i-j-2.ensures
+returns-else-i-j-2 c = grind (arith, nat_tests, copied_down, get_or)

@@ -1,3 +1,4 @@
+use Rattle.std.proofs.lemmas.Bool.Decides.{nat_tests}
 use Rattle.std.proofs.Common.{◌≡◌, ◌-◌, ap, arith, ◌∙◌, sym, length, drop, ℕ}
 use Rattle.std.specs.List.{list_any}
 use Rattle.arena_rules.specs.State.{is_used_by}
@@ -11,10 +12,7 @@ chunk_has-requires-clause-index c =
     omega (arith, c.loop-i-test.true, c.len-i-end.ensures, c.self.inside.kept.ok.0, items_length _ _ _ _ c.self.invariant c.self.view_is)
 
 pub returns-then-chunk_has : goal.returns-then-chunk_has
-returns-then-chunk_has c =
-    let is = c.chunk_has.ensures in
-    sym (one_has (λ (x : StoredChunk). is_used_by c.args.block.addr c.args.block.size (stored_chunk x)) c.args.self.now.items c.loop-i.i
-    is.0 is.1 (sym is.2 ∙ c.if-chunk_has.true))
+returns-then-chunk_has c = grind (arith, nat_tests, one_has)
 
 pub returns : goal.returns
 returns c =
