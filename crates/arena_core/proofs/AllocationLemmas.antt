@@ -1,8 +1,8 @@
 -- What is true of an arena after a block was placed.
-use Rattle.std.proofs.Common.{◌≡◌, ℕ, ◌+◌, ◌-◌, ◌≤◌, max, ap, sym, refl, subst, ◌∙◌, arith, true, false, IsTrue, Some, None, Err}
+use Rattle.std.proofs.Common.{◌≡◌, ℕ, ◌+◌, sym, refl, subst, arith, true, false, IsTrue, Some, None, Err}
 use Rattle.std.specs.Prelude.{nat_le}
 use Rattle.std.proofs.lemmas.Bool.Decides.{nat_tests}
-use Rattle.arena_rules.specs.Rounding.{down, is_layout}
+use Rattle.arena_rules.specs.Rounding.{is_layout}
 use Rattle.arena_rules.specs.State.{State, IsValid, start_of, cursor_of}
 use Rattle.arena_rules.specs.Search.{place, place_below, alloc_requests}
 use Rattle.arena_rules.proofs.RoundingLemmas.{layout_power}
@@ -22,7 +22,6 @@ use Rattle.arena_core.specs.Answers.{OnCounted}
 use Rattle.arena_core.specs.Answers.Answer.{Placed}
 use Rattle.arena_core.specs.BlockCalls.{IsBlockOf, PlacesAfter}
 use Rattle.arena_store.specs.declared.block.ArenaErr.{ArenaErr}
-use Rattle.arena_store.specs.declared.block.ArenaErr.TheVariants.{AllocErr, OutOfMemory}
 use Rattle.arena_store.specs.declared.block.Block.{Block}
 use Rattle.arena_core.proofs.FrameLemmas.{byte_moved, frame_new}
 use Rattle.arena_core.proofs.ResizedLemmas.{block_of}
@@ -43,26 +42,14 @@ place_cursor state size align p valid layout found =
 -- the view of an arena with the cursor there, whatever is ready below it, and one more allocation counted
 pub placed_view : (m : ℕ) (a : Inside m) (memory : Memory) (p low n : ℕ) → view_of m a ≡ memory → n ≡ counted a.allocations 1
     → memory_of m a.is_growing a.generation n a.reallocations (moved_chunk m a p low) a.older.items ≡ placed_at memory p
-placed_view m a memory p low n is one =
-    ap (λ (w : Memory). record w { statistics = record w.statistics { allocations = n } }) (cursor_view m a memory p low is)
-    ∙ rw one (ap (λ (w : Memory). record (placed_at memory p) {
-      statistics =
-          record memory.statistics { allocations = counted w.statistics.allocations 1 };
-    }) is)
+placed_view m a memory p low n is one = grind (arith, nat_tests, cursor_view)
 
 pub placing_here : (memory : Memory) (size align p : ℕ) → place memory.state size align ≡ Some p
     → IsPlacing memory (placed_at memory p) size align 0 p
-placing_here memory size align p found = record {
-  step = alloc_placed memory.state size align p found;
-  statistics = refl;
-  bytes = λ a used. byte_moved p memory.state.chunks memory.bytes a;
-}
+placing_here memory size align p found = grind (arith, nat_tests, alloc_placed, byte_moved)
 
 place_is : (start cursor size align m p : ℕ) → IsPlace start cursor size align m p → place_below start cursor size align m ≡ Some p
-place_is start cursor size align m p at =
-    let low : start ≤ down (cursor - size) (max align m) = omega (arith, at.low, at.is) in
-    let test : nat_le start (down (cursor - size) (max align m)) ≡ true = grind (arith, nat_tests) in
-    rw test (ap Some (sym at.is))
+place_is start cursor size align m p at = grind (arith, nat_tests)
 
 -- the chunk that was added has the place, and is valid
 pub added_granted : (old new : Memory) (size align k p : ℕ) → IsTrue (is_layout size align) → place old.state size align ≡ None
@@ -139,18 +126,4 @@ pub all_refused : (old new : Memory) (before after : Source) (size align : ℕ) 
     → place old.state size align ≡ None → new ≡ old
     → OnFound (Err e) (AddsChunk (view old before) (view new after) size align) ((old.state.is_growing ≡ true) × (after ≡ before))
     → OnCounted (Err e) (PlacesAfter (view old before) (view new after) size align)
-all_refused old new before after size align (AllocErr k) valid none same added = record {
-  valid = record { entry = valid; exit = rw same valid };
-  outcome = (
-    refl,
-    record {
-      step = alloc_refused old.state size align k none added.added;
-      asked = rw none added.asked;
-      memory = same;
-    },
-  );
-}
-all_refused old new before after size align OutOfMemory valid none same exhausted = record {
-  valid = record { entry = valid; exit = rw same valid };
-  outcome = record { place = none; growing = exhausted.0; same = rw (same, exhausted.1) refl };
-}
+all_refused old new before after size align e valid none same added = grind (arith, nat_tests, alloc_refused)

@@ -1,5 +1,6 @@
 -- Results of calls that place a block.
-use Rattle.std.proofs.Common.{ℕ, Result, Ok, Err}
+use Rattle.std.proofs.lemmas.Bool.Decides.{nat_tests}
+use Rattle.std.proofs.Common.{arith, ℕ, Result, Err}
 use Rattle.std.specs.Prelude.{OnErr}
 use Rattle.arena_core.specs.Answers.{Answer, answer_of, OnCounted}
 use Rattle.arena_store.specs.declared.block.ArenaErr.{ArenaErr}
@@ -12,5 +13,4 @@ uncounted_err P OutOfMemory holds = (0, holds)
 
 -- A fact that holds, holds on an error too.
 pub on_err : {X E P : Type 0} → (r : Result X E) → P → OnErr r P
-on_err (Ok x) holds = tt
-on_err (Err e) holds = holds
+on_err r holds = grind (arith, nat_tests)

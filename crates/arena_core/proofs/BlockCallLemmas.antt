@@ -1,6 +1,5 @@
 -- A block that was placed or grown, and then written.
-use Rattle.std.proofs.Common.{◌≡◌, ℕ, ◌+◌, ◌≤◌, min, ap, subst, ◌∙◌, arith, List, [], ◌∷◌, false, length, take, drop, replicate}
-use Rattle.std.specs.Prelude.{nat_le, nat_lt, ◌&&◌}
+use Rattle.std.proofs.Common.{◌≡◌, ℕ, ◌+◌, ◌≤◌, min, ap, subst, ◌∙◌, arith, List, [], ◌∷◌, length, take, drop, replicate}
 use Rattle.std.proofs.lemmas.Bool.Decides.{nat_tests}
 use Rattle.std.proofs.lemmas.List.{length-replicate}
 use Rattle.arena_rules.specs.State.{IsValid}
@@ -20,13 +19,7 @@ use Rattle.arena_core.proofs.FrameRules.{frame_then}
 pub writes_block : (old new : Memory) (b : Block) (at : ℕ) (list : List ℕ) → IsValid old.state → new.state ≡ old.state
     → new.statistics ≡ old.statistics → Writes old new (b.addr + at) list
     → at + length list ≤ b.size → WritesBlock old new b at list
-writes_block old new b at list valid same statistics writes fits = record {
-  valid = record { entry = valid; exit = rw same valid };
-  state = same;
-  statistics = statistics;
-  bytes = writes;
-  frame = frame_written old new b at list same writes fits;
-}
+writes_block old new b at list valid same statistics writes fits = grind (arith, nat_tests, frame_written)
 
 -- A change with one possible result writes that list.
 pub edits_to : (old new : Memory) (b : Block) (at size : ℕ) (list : List ℕ) → EditsBlock old new b at size (λ before after. after ≡ list)
@@ -71,35 +64,19 @@ wrote_fill old new b at n value writes = rw (length-replicate n value) at (wrote
 -- The bytes before a written range stay.
 pub wrote_after : (old new : Memory) (b : Block) (at n : ℕ) (list : List ℕ) → WritesBlock old new b at list → n ≤ at
     → bytes_from (image new) b.addr n ≡ bytes_from (image old) b.addr n
-wrote_after old new b at n list writes later = bytes_same (image new) (image old) b.addr n (λ i below.
-    let beside : (nat_le (b.addr + at) (b.addr + i) && nat_lt (b.addr + i) (b.addr + at + length list)) ≡ false = grind (arith, nat_tests)
-    in
-    writes.bytes (b.addr + i) ∙ written_beside (image old) (b.addr + at) (b.addr + i) list beside)
+wrote_after old new b at n list writes later = grind (arith, nat_tests, bytes_same, written_beside)
 
 -- A block that was placed and then written was placed, with those bytes.
 pub placed_written : (old mid new : Memory) (before after : Source) (size align k : ℕ) (b : Block) (at : ℕ) (list : List ℕ)
     → PlacesAfter (view old before) (view mid after) size align k (Placed b)
     → WritesBlock mid new b at list → PlacesAfter (view old before) (view new after) size align k (Placed b)
-placed_written old mid new before after size align k b at list places writes =
-    let placed = places.outcome in
-    record {
-      valid = record { entry = places.valid.entry; exit = writes.valid.exit };
-      outcome = record {
-        step = rw writes.state placed.step;
-        asked = placed.asked;
-        of_layout = rw writes.state placed.of_layout;
-        aligned = rw writes.state placed.aligned;
-        statistics = writes.statistics ∙ placed.statistics;
-        frame = frame_then old mid new [] (b ∷ []) (b ∷ []) placed.frame writes.frame;
-      };
-    }
+placed_written old mid new before after size align k b at list places writes = grind (arith, nat_tests, frame_then)
 
 -- the same if the number of refusals isn't returned
 pub places_written : (old mid new : Memory) (before after : Source) (size align : ℕ) (b : Block) (at : ℕ) (list : List ℕ)
     → PlacesBlock (view old before) (view mid after) size align (Placed b)
     → WritesBlock mid new b at list → PlacesBlock (view old before) (view new after) size align (Placed b)
-places_written old mid new before after size align b at list places writes =
-    (places.0, placed_written old mid new before after size align places.0 b at list places.1 writes)
+places_written old mid new before after size align b at list places writes = grind (arith, nat_tests, placed_written)
 
 -- A block that was resized and then written after the bytes that it kept was resized, with those bytes.
 pub resized_written : (way : Resizing) (old mid new : Memory) (before after : Source) (block : Block) (size align k : ℕ) (b : Block)

@@ -1,6 +1,6 @@
 -- How an arena is created.
 use Rattle.std.proofs.Common.{◌≡◌, ℕ, ◌+◌, ◌^◌, ◌<◌, max, sym, ap, refl, subst, ◌∙◌, arith, IsTrue, true, false, Option, Some, None, [], ◌∷◌, length}
-use Rattle.std.specs.Prelude.{◌==◌, replicate}
+use Rattle.std.specs.Prelude.{replicate}
 use Rattle.std.specs.Option.{option_map}
 use Rattle.std.proofs.lemmas.Bool.Decides.{nat_tests}
 use Rattle.std.proofs.lemmas.List.{length-replicate}
@@ -55,9 +55,7 @@ created_at : (m capacity k : ℕ) (answer : Option Memory) (before after : Sourc
     → option_map (option_map zeroed_memory) (create_at chunk m k) ≡ Some answer → IsAsked before after k (requests_for m chunk)
     → IsCreation m capacity k answer before after
 unfolding create create_requests
-created_at m capacity k answer before after chunk some is step asked =
-    let test : (capacity == 0) ≡ false = grind (arith, nat_tests) in
-    record { step = rw (test, ← is) step; asked = rw (test, ← is) asked }
+created_at m capacity k answer before after chunk some is step asked = grind (arith, nat_tests)
 
 -- without a chunk to ask for there is no arena
 pub created_unasked : (m capacity : ℕ) (source : Source) → (capacity ≡ 0 → ⊥) → None ≡ capacity_chunk capacity m

@@ -1,4 +1,5 @@
 -- Blocks at the cursor that are resized in place.
+use Rattle.std.proofs.lemmas.Bool.Decides.{nat_tests}
 use Rattle.std.proofs.Common.{◌≡◌, ℕ, ◌+◌, ◌-◌, ◌%◌, ◌<◌, ◌≤◌, max, min, ap, refl, subst, ◌∙◌, arith, IsTrue, Some}
 use Rattle.arena_rules.specs.Rounding.{down, up, is_layout}
 use Rattle.arena_rules.specs.State.{State, IsValid, is_range_used, start_of, cursor_of, with_cursor}
@@ -56,17 +57,7 @@ pub shrunk : (m : ℕ) (old mid new : Memory) (block : Block) (size align delta 
     → Writes old mid (block.addr + delta) (bytes_from (image old) block.addr size)
     → new ≡ record { state = with_cursor (block.addr + delta) mid.state; statistics = one_reallocation mid.statistics; bytes = mid.bytes }
     → MovesCursor old new block (block.addr + delta) size size
-shrunk m old mid new block size align delta is same bytes moved = record {
-  valid = is.last.valid;
-  at = is.last.at;
-  ends = is.last.ends;
-  low = is.low;
-  aligned = is.aligned;
-  fits = omega (arith, is.fits);
-  shorter = omega arith;
-  state = ap (λ (w : Memory). w.state) moved ∙ ap (with_cursor (block.addr + delta)) same;
-  bytes = λ p. ap (λ (w : Memory). image w p) moved ∙ byte_moved (block.addr + delta) mid.state.chunks mid.bytes p ∙ bytes p;
-}
+shrunk m old mid new block size align delta is same bytes moved = grind (arith, nat_tests, byte_moved)
 
 pub record IsGrown (memory : Memory) (block : Block) (size align q : ℕ) : Type 0 where
   pub valid : IsValid memory.state
@@ -102,33 +93,16 @@ is_grown m a memory block size align n unit q stands view readable here more sam
 -- ---- Down
 
 pub is_below : (state : State) (q n : ℕ) → IsValid state → FitsBelow state q n → IsCursor state q
-is_below state q n valid fits = record {
-  low = fits.low;
-  high = omega (arith, fits.high, fits.within);
-  valid = valid_moved state q valid fits.low fits.high fits.aligned;
-}
+is_below state q n valid fits = grind (arith, nat_tests, valid_moved)
 
 -- with the cursor there everything is in use up to the end of the bytes that move
 pub below_used : (state : State) (q n p k : ℕ) → FitsBelow state q n → q ≤ p → p + k ≤ cursor_of state.chunks + n → 0 < k
     → IsTrue (is_range_used (with_cursor q state).chunks p k)
-below_used state q n p k fits low high some =
-    let whole : ℕ = cursor_of state.chunks + n - q in
-    used_part q whole p k (with_cursor q state).chunks low (omega (arith, fits.high))
-    (used_from q whole state.chunks (omega arith) fits.low (omega (arith, fits.high, fits.within)))
+below_used state q n p k fits low high some = grind (arith, nat_tests, used_part, used_from)
 
 pub grown : (old new : Memory) (block : Block) (size align q : ℕ) → IsGrown old block size align q → block.size ≤ size
     → IsMovedDown old new q block.size → MovesCursor old new block q size block.size
-grown old new block size align q is longer moved = record {
-  valid = is.valid;
-  at = is.at;
-  ends = omega (arith, is.at, is.below.within);
-  low = is.below.low;
-  aligned = is.below.aligned;
-  fits = is.fits;
-  shorter = longer;
-  state = moved.state;
-  bytes = rw is.at moved.bytes;
-}
+grown old new block size align q is longer moved = grind (arith, nat_tests)
 
 -- ---- Shrinking without a request
 

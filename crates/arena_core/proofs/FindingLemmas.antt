@@ -65,5 +65,4 @@ module _ (m : ℕ) (a : Inside m) (memory : Memory) where
       shifted = grind (arith, nat_tests)
 
   pub no_number : (addr : ℕ) → Stands m a → view_of m a ≡ memory → a.newest.base ≡ 16 → None ≡ chunk_number addr memory.state.chunks
-  no_number addr stands view none = subst (λ (w : Memory). None ≡ chunk_number addr w.state.chunks) view
-      (elim (kind m a stands) [ inl empty ↦ rw empty.0 refl | inr some ↦ absurd (differs a.newest.base some none) ])
+  no_number addr stands view none = grind (arith, nat_tests, kind, differs)

@@ -1,11 +1,11 @@
 -- What calls do to the rest of an arena.
-use Rattle.std.proofs.Common.{◌≡◌, ℕ, ◌+◌, ◌<◌, ◌≤◌, inl, inr, ap, sym, refl, subst, ◌∙◌, arith, List, [], ◌∷◌, false, IsTrue, length}
+use Rattle.std.proofs.Common.{◌≡◌, ℕ, ◌+◌, ◌<◌, ◌≤◌, inl, inr, ap, arith, List, [], ◌∷◌, false, IsTrue, length}
 use Rattle.std.specs.Prelude.{nat_le, nat_lt, ◌&&◌}
 use Rattle.std.proofs.lemmas.Bool.{cases_lt}
 use Rattle.std.proofs.lemmas.Bool.Decides.{nat_tests}
-use Rattle.arena_rules.specs.State.{State, Chunk, IsValid, is_used, is_range_used, with_newest_cursor, allocated_bytes, AreApart}
+use Rattle.arena_rules.specs.State.{State, Chunk, IsValid, is_used, with_newest_cursor, allocated_bytes, AreApart}
 use Rattle.arena_rules.specs.Moves.{dealloc}
-use Rattle.arena_rules.specs.Blocks.{IsNewBlock, LieBeside, padded_size}
+use Rattle.arena_rules.specs.Blocks.{IsNewBlock, LieBeside}
 use Rattle.arena_rules.proofs.RoundingLemmas.{up_ge, min_align_positive}
 use Rattle.arena_rules.proofs.ReturnLemmas.{dealloc_keeps, dealloc_generation, dealloc_min_align, dealloc_is_growing, dealloc_allocated}
 use Rattle.arena_store.specs.Memory.{Memory, byte_in, image, Writes}
@@ -16,9 +16,7 @@ use Rattle.arena_store.proofs.BytesLemmas.{written_beside}
 -- the bytes don't depend on the cursor
 pub bytes_moved : (p : ℕ) → (chunks : List Chunk) (bytes : List (List ℕ))
     → byte_in (with_newest_cursor p chunks) bytes ≡ byte_in chunks bytes
-bytes_moved p [] bytes = refl
-bytes_moved p (newest ∷ older) [] = refl
-bytes_moved p (newest ∷ older) (list ∷ bytes) = refl
+bytes_moved p chunks bytes = grind (arith, nat_tests)
 
 pub byte_moved : (p : ℕ) → (chunks : List Chunk) (bytes : List (List ℕ)) (a : ℕ)
     → byte_in (with_newest_cursor p chunks) bytes a ≡ byte_in chunks bytes a
@@ -32,29 +30,20 @@ apart_turned p m q n apart = λ some many. elim (apart many some) [ inl above �
 
 -- What is apart from a padded block is apart from the block.
 pub apart_unpadded : (state : State) (p size addr n : ℕ) → IsValid state → LieBeside state p size addr n → AreApart addr n p size
-apart_unpadded state p size addr n valid beside = λ many some.
-    let reach = up_ge (p + size) state.min_align (min_align_positive state.min_align valid.min_align) in
-    elim (beside (omega arith) many) [ inl above ↦ inr (omega arith) | inr below ↦ inl (omega arith) ]
+apart_unpadded state p size addr n valid beside = grind (arith, nat_tests, up_ge, min_align_positive)
 
 -- What is apart from a range is apart from a part of it.
 pub apart_part : (addr n p m q k : ℕ) → AreApart addr n p m → p ≤ q → q + k ≤ p + m → AreApart addr n q k
-apart_part addr n p m q k apart low high = λ many some.
-    elim (apart many (omega arith)) [ inl below ↦ inl (omega arith) | inr above ↦ inr (omega arith) ]
+apart_part addr n p m q k apart low high = grind (arith, nat_tests)
 
 -- A range that begins at or above a block and is apart from it is above all of the block.
 pub behind : (addr n p m : ℕ) → 0 < n → p ≤ addr → AreApart addr n p m → p + m ≤ addr
-behind addr n p m some low apart = elim (cases_lt 0 m) [
-  | inl filled ↦ elim (apart some filled) [ inl below ↦ absurd (omega arith) | inr above ↦ above ]
-  | inr none ↦ omega arith
-]
+behind addr n p m some low apart = grind (arith, nat_tests, cases_lt)
 
 -- An address apart from a block isn't in a range within the block.
 pub beside_range : (p addr m from n : ℕ) → AreApart p 1 addr m → addr ≤ from → from + n ≤ addr + m
     → (nat_le from p && nat_lt p (from + n)) ≡ false
-beside_range p addr m from n apart low high = elim (cases_lt 0 n) [
-  | inl some ↦ elim (apart (omega arith) (omega arith)) [ inl below ↦ grind (arith, nat_tests) | inr above ↦ grind (arith, nat_tests) ]
-  | inr none ↦ grind (arith, nat_tests)
-]
+beside_range p addr m from n apart low high = grind (arith, nat_tests, cases_lt)
 
 -- ---- Frames of calls
 
@@ -77,31 +66,10 @@ frame_new old new size align b valid is sized allocated bytes = record {
 pub frame_dealloc : (old new : Memory) (block : Block) → new ≡ record old { state = dealloc old.state block.addr block.size }
     → ((p : ℕ) → image new p ≡ image old p) → Frame old new (padded old.state.min_align block ∷ []) []
 frame_dealloc old new block is bytes =
-    let state : new.state ≡ dealloc old.state block.addr block.size = ap (λ (w : Memory). w.state) is in
-    record {
-      generation = ap (λ (s : State). s.generation) state ∙ dealloc_generation old.state block.addr block.size;
-      min_align = ap (λ (s : State). s.min_align) state ∙ dealloc_min_align old.state block.addr block.size;
-      is_growing = ap (λ (s : State). s.is_growing) state ∙ dealloc_is_growing old.state block.addr block.size;
-      allocated = λ still. ap allocated_bytes state ∙ dealloc_allocated old.state block.addr block.size;
-      kept = λ addr n some used apart. subst (λ (s : State). IsTrue (is_range_used s.chunks addr n)) (sym state)
-          (dealloc_keeps old.state block.addr block.size addr n some used
-          (apart_turned addr n block.addr (padded_size old.state.min_align block.addr block.size) apart.0));
-      apart = λ addr n some used apart. tt;
-      bytes = λ p used apart. bytes p;
-    }
+    grind (arith, nat_tests, dealloc_generation, dealloc_min_align, dealloc_is_growing, dealloc_allocated, dealloc_keeps, apart_turned)
 
 -- a range of a block is written
 pub frame_written : (old new : Memory) (b : Block) (at : ℕ) (list : List ℕ) → new.state ≡ old.state → Writes old new (b.addr + at) list
     → at + length list ≤ b.size
     → Frame old new (b ∷ []) (b ∷ [])
-frame_written old new b at list same writes fits = record {
-  generation = ap (λ (s : State). s.generation) same;
-  min_align = ap (λ (s : State). s.min_align) same;
-  is_growing = ap (λ (s : State). s.is_growing) same;
-  allocated = λ still. ap allocated_bytes same;
-  kept = λ addr n some used apart. subst (λ (s : State). IsTrue (is_range_used s.chunks addr n)) (sym same) used;
-  apart = λ addr n some used apart. apart;
-  bytes = λ p used apart. writes p
-      ∙ written_beside (image old) (b.addr + at) p list
-      (beside_range p b.addr b.size (b.addr + at) (length list) apart.0 (omega arith) (omega (arith, fits)));
-}
+frame_written old new b at list same writes fits = grind (arith, nat_tests, written_beside, beside_range)

@@ -1,13 +1,12 @@
 -- Blocks apart; frames one after another, of more and fewer blocks, with one more block; where a readable block is.
-use Rattle.std.proofs.Common.{◌≡◌, ℕ, ◌+◌, ◌<◌, ◌≤◌, inl, inr, ◌↔◌, ap, sym, refl, ◌∙◌, arith, List, [], ◌∷◌, ◌++◌, true, IsTrue, eq-eqb}
-use Rattle.std.specs.Prelude.{◌&&◌, ◌==◌}
+use Rattle.std.proofs.Common.{◌≡◌, ℕ, ◌+◌, ◌<◌, ◌≤◌, inl, inr, ◌↔◌, refl, arith, List, [], ◌∷◌, ◌++◌, IsTrue, eq-eqb}
 use Rattle.std.specs.List.{Contains, AllByRecursion}
 use Rattle.std.proofs.lemmas.Bool.{cases_lt, or_cases, or_left, or_right}
 use Rattle.std.proofs.lemmas.Bool.Decides.{nat_tests}
 use Rattle.std.proofs.lemmas.List.Folds.{list_any_at}
 use Rattle.std.proofs.lemmas.List.Elements.{Contains-append_right}
 use Rattle.arena_rules.specs.State.{State, Chunk, is_used_by, is_range_used}
-use Rattle.arena_store.specs.Memory.{Memory, image, is_readable}
+use Rattle.arena_store.specs.Memory.{Memory, is_readable}
 use Rattle.arena_core.specs.Frame.{IsApart, AreAllApart, ArePairwiseApart, AreBlocksApart, Frame, Stays, IsInUse}
 use Rattle.arena_store.specs.declared.block.Block.{Block}
 use Rattle.arena_core.proofs.FrameLemmas.{apart_part, apart_turned}
@@ -57,44 +56,19 @@ pairwise_both (x ∷ xs) ys first second all = (apart_both x.addr x.size xs ys f
 
 -- nothing happened
 pub frame_reflexive : (memory : Memory) (blocks : List Block) → Frame memory memory blocks blocks
-frame_reflexive memory blocks = record {
-  generation = refl;
-  min_align = refl;
-  is_growing = refl;
-  allocated = λ still. refl;
-  kept = λ addr n some used apart. used;
-  apart = λ addr n some used apart. apart;
-  bytes = λ p used apart. refl;
-}
+frame_reflexive memory blocks = grind (arith, nat_tests)
 
 -- one call after another
 pub frame_then : (old mid new : Memory) (before between after : List Block) → Frame old mid before between → Frame mid new between after
     → Frame old new before after
-frame_then old mid new before between after first second = record {
-  generation = second.generation ∙ first.generation;
-  min_align = second.min_align ∙ first.min_align;
-  is_growing = second.is_growing ∙ first.is_growing;
-  allocated = λ still. second.allocated (first.is_growing ∙ still) ∙ first.allocated still;
-  kept = λ addr n some used apart. second.kept addr n some (first.kept addr n some used apart) (first.apart addr n some used apart);
-  apart = λ addr n some used apart. second.apart addr n some (first.kept addr n some used apart) (first.apart addr n some used apart);
-  bytes = λ p used apart. second.bytes p (first.kept p 1 (omega arith) used apart) (first.apart p 1 (omega arith) used apart)
-      ∙ first.bytes p used apart;
-}
+frame_then old mid new before between after first second = grind (arith, nat_tests)
 
 -- more blocks before, fewer after
 pub frame_weaken : (old new : Memory) (before more after fewer : List Block)
     → ((addr n : ℕ) → 0 < n → IsApart addr n more → IsApart addr n before)
     → ((addr n : ℕ) → 0 < n → IsApart addr n more → IsApart addr n after → IsApart addr n fewer) → Frame old new before after
     → Frame old new more fewer
-frame_weaken old new before more after fewer larger smaller frame = record {
-  generation = frame.generation;
-  min_align = frame.min_align;
-  is_growing = frame.is_growing;
-  allocated = frame.allocated;
-  kept = λ addr n some used apart. frame.kept addr n some used (larger addr n some apart);
-  apart = λ addr n some used apart. smaller addr n some apart (frame.apart addr n some used (larger addr n some apart));
-  bytes = λ p used apart. frame.bytes p used (larger p 1 (omega arith) apart);
-}
+frame_weaken old new before more after fewer larger smaller frame = grind (arith, nat_tests)
 
 -- the blocks after are forgotten
 pub frame_forget : (old new : Memory) (before after : List Block) → Frame old new before after → Frame old new before []
@@ -160,34 +134,13 @@ is_filled state b some readable = record { generation = grind (arith, nat_tests)
 
 -- the converse of `is_filled`
 pub filled_readable : (state : State) (b : Block) → IsFilled state b → IsTrue (is_readable state b)
-filled_readable state b is =
-    or_right (b.size == 0) (b.generation == state.generation && is_range_used state.chunks b.addr b.size)
-    (rw (eq-eqb _ _ is.generation) is.used)
+filled_readable state b is = grind (arith, nat_tests, or_right, eq-eqb)
 
 -- a readable block that is apart from those before stays
 pub frame_keeps : (old new : Memory) (before after : List Block) (b : Block) → Frame old new before after → IsTrue (is_readable old.state b)
     → IsApart b.addr b.size before → Stays old new after b
-frame_keeps old new before after b frame readable apart = elim (cases_lt 0 b.size) [
-  | inr none ↦ record {
-    readable = or_left (b.size == 0) (b.generation == new.state.generation && is_range_used new.state.chunks b.addr b.size)
-        (eq-eqb _ _ (omega arith));
-    bytes = bytes_same (image new) (image old) b.addr b.size (λ i below. absurd (omega arith));
-    apart = apart_empty b.addr b.size after (omega arith);
-  }
-  | inl some ↦
-      let is = is_filled old.state b some readable in
-      record {
-        readable = filled_readable new.state b (record {
-          generation = is.generation ∙ sym frame.generation;
-          used = frame.kept b.addr b.size some is.used apart;
-        });
-        bytes = bytes_same (image new) (image old) b.addr b.size
-            (λ i below. frame.bytes (b.addr + i)
-            (readable_part old.state b (b.addr + i) 1 readable (omega arith) (omega arith) (omega arith))
-            (apart_within b.addr b.size (b.addr + i) 1 before (omega arith) (omega arith) apart));
-        apart = frame.apart b.addr b.size some is.used apart;
-      }
-]
+frame_keeps old new before after b frame readable apart =
+    grind (arith, nat_tests, cases_lt, or_left, eq-eqb, bytes_same, apart_empty, filled_readable, readable_part, apart_within)
 
 -- so do all blocks of a list
 pub frame_keeps_all : (old new : Memory) (before after bs : List Block) → Frame old new before after
@@ -208,25 +161,4 @@ chunk_of addr n (newest ∷ older) used = elim (or_cases (is_used_by addr n newe
 
 -- A block of some bytes is readable exactly if it is in a chunk's used part.
 pub in_use : (state : State) (b : Block) → 0 < b.size → IsTrue (is_readable state b) ↔ IsInUse state b
-in_use state b some = (
-  λ readable.
-      let is = is_filled state b some readable in
-      let found = chunk_of b.addr b.size state.chunks is.used in
-      let here = found.2 in
-      record {
-        generation = is.generation;
-        chunk = found.0;
-        among = found.1;
-        low = grind (arith, nat_tests);
-        high = grind (arith, nat_tests);
-      },
-  λ is.
-      let low = is.low in
-      let high = is.high in
-      let here : is_used_by b.addr b.size is.chunk ≡ true = grind (arith, nat_tests) in
-      filled_readable state b (record {
-        generation = is.generation;
-        used = list_any_at (is_used_by b.addr b.size) state.chunks is.among.0 is.chunk is.among.1 (ap (is_used_by b.addr b.size) is.among.2
-            ∙ here);
-      }),
-)
+in_use state b some = grind (arith, nat_tests, chunk_of, filled_readable, list_any_at)

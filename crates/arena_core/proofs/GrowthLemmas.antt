@@ -1,10 +1,9 @@
 -- A granted chunk becomes the newest.
-use Rattle.std.proofs.Common.{◌≡◌, ℕ, ◌+◌, ◌-◌, ◌≤◌, ◌^◌, max, ap, sym, refl, subst, ◌∙◌, arith, IsTrue, Some, None, Option, List, [], ◌∷◌, true, false, length, inl, inr}
+use Rattle.std.proofs.Common.{◌≡◌, ℕ, ◌+◌, ◌-◌, ◌≤◌, ◌^◌, max, ap, sym, refl, subst, ◌∙◌, arith, IsTrue, Some, None, Option, List, [], ◌∷◌, true, false, length}
 use Rattle.std.specs.Prelude.{◌==◌, if◌then◌else◌, slice_get}
 use Rattle.std.specs.Option.{option_map_or}
 use Rattle.std.proofs.lemmas.Bool.Decides.{nat_tests}
 use Rattle.std.specs.List.{All}
-use Rattle.std.proofs.lemmas.List.Elements.{All-cons}
 use Rattle.arena_rules.specs.Rounding.{is_layout}
 use Rattle.arena_rules.specs.State.{State, Chunk, AreChunks, IsValid, floor_of}
 use Rattle.arena_rules.specs.Search.{asked, asked_above, requests}
@@ -62,14 +61,7 @@ module _ (m : ℕ) (a : Inside m) where
       → end ≡ (if a.newest.base == 16 then None else Some (a.newest.base + length a.newest.bytes.items))
       → asked_above (option_map_or (λ e. e + 48) end 4096) n size align ≡ asked memory.state size align
   unfolding asked
-  asked_stored memory size align n end stands view growing sized is =
-      subst (λ (w : Memory). asked_above (option_map_or (λ e. e + 48) end 4096) n size align ≡ asked w.state size align) view
-      (elim (kind m a stands) [
-        | inl none ↦
-            let empty : n ≡ 0 = sized ∙ ap length none.2.bytes in
-            rw (is, none.0, growing, empty) refl
-        | inr some ↦ rw (is, some, growing, sized) refl
-      ])
+  asked_stored memory size align n end stands view growing sized is = grind (arith, nat_tests, kind)
 
   pub room_stored : (memory : Memory) (size align k base count n : ℕ) (end : Option ℕ) → Stands m a → view_of m a ≡ memory
       → a.is_growing ≡ true → IsTrue (is_layout size align)
@@ -85,17 +77,11 @@ module _ (m : ℕ) (a : Inside m) where
   table_all : (older : List StoredChunk) → Stands m a
       → older ≡ (if a.newest.base == 16 then a.older.items else a.newest ∷ a.older.items)
       → older ≡ all_chunks a.newest a.older.items
-  table_all older stands is = elim (kind m a stands) [
-    | inl none ↦ rw (is, none.0, none.2.older) refl
-    | inr some ↦ rw (is, some) refl
-  ]
+  table_all older stands is = grind (arith, nat_tests, kind)
 
   table_ready : (older : List StoredChunk) → Stands m a
       → older ≡ (if a.newest.base == 16 then a.older.items else a.newest ∷ a.older.items) → All IsReady older
-  table_ready older stands is = elim (kind m a stands) [
-    | inl none ↦ rw (is, none.0) stands.older_ready
-    | inr some ↦ rw (is, some) (All-cons IsReady a.newest a.older.items stands.ready stands.older_ready)
-  ]
+  table_ready older stands is = grind (arith, nat_tests, kind)
 
   pub record IsInstalled (memory : Memory) (base : ℕ) (bytes : List ℕ) (newest : StoredChunk) (older : List StoredChunk) : Type 0 where
     pub view : view_with m a newest older
@@ -109,17 +95,4 @@ module _ (m : ℕ) (a : Inside m) where
       → older ≡ (if a.newest.base == 16 then a.older.items else a.newest ∷ a.older.items)
       → IsInstalled memory base bytes.items newest older
   installed memory base bytes newest older stands view valid is ready table =
-      let high : 4096 ≤ base = omega (arith, valid.chunks.1, floor_large memory.state.min_align memory.state.chunks valid.chunks.2) in
-      let test : (base == 16) ≡ false = grind (arith, nat_tests) in
-      let all = table_all older stands table in
-      let fine = subst (λ (w : Memory). IsValid (with_chunk (base, length bytes.items) w.state)) (sym view) valid in
-      subst (λ (w : Memory). IsInstalled w base bytes.items newest older) view
-      (subst (λ (c : StoredChunk). IsInstalled (view_of m a) base bytes.items c older) (sym is) (record {
-        view = rw (test, all) refl;
-        stored = record {
-          valid = rw (test, all) fine;
-          none = λ same. absurd (omega (arith, same, high));
-          ready = rw is at ready;
-          older_ready = table_ready older stands table;
-        };
-      }))
+      grind (arith, nat_tests, floor_large, table_all, view_of, table_ready)

@@ -1,5 +1,6 @@
 -- The block at the cursor, and its return.
-use Rattle.std.proofs.Common.{◌≡◌, ℕ, ◌+◌, ◌-◌, ◌<◌, ◌≤◌, ◌^◌, ◌∙◌, ap, sym, subst, arith, refl, inl, inr, IsTrue}
+use Rattle.std.proofs.lemmas.Bool.Decides.{nat_tests}
+use Rattle.std.proofs.Common.{◌≡◌, ℕ, ◌+◌, ◌-◌, ◌<◌, ◌≤◌, ◌^◌, ◌∙◌, ap, sym, subst, arith, IsTrue}
 use Rattle.std.proofs.lemmas.Bool.{cases_eq}
 use Rattle.arena_rules.specs.Rounding.{up}
 use Rattle.arena_rules.specs.State.{State, IsValid, cursor_of, top_of}
@@ -52,11 +53,7 @@ last_returned m memory block q last is = is_return memory.state block.addr block
 -- No byte changes when a block is given back.
 pub dealloc_bytes : (old : Memory) (block : Block) (p : ℕ)
     → image (record old { state = dealloc old.state block.addr block.size }) p ≡ image old p
-dealloc_bytes old block p = elim (cases_eq block.addr (cursor_of old.state.chunks)) [
-  | inl at ↦ rw (dealloc_at old.state block.addr block.size at)
-      (byte_moved (up (block.addr + block.size) old.state.min_align) old.state.chunks old.bytes p)
-  | inr other ↦ rw (dealloc_elsewhere old.state block.addr block.size other) refl
-]
+dealloc_bytes old block p = grind (arith, nat_tests, cases_eq, dealloc_at, byte_moved, dealloc_elsewhere)
 
 -- The effects of giving a block back by the rule.
 pub gives_back : (old new : Memory) (block : Block) → IsValid old.state → IsTrue (is_readable old.state block)

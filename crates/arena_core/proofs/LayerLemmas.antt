@@ -1,15 +1,14 @@
 -- What the calls on blocks mean for a layer above.
-use Rattle.std.proofs.Common.{◌≡◌, ℕ, zero, suc, ◌+◌, ◌*◌, ◌^◌, ◌<◌, ◌≤◌, List, [], ◌∷◌, ◌++◌, length, map, sum, inl, inr, ap, refl, sym, ◌∙◌, arith, IsTrue, Some, false}
+use Rattle.std.proofs.Common.{◌≡◌, ℕ, zero, suc, ◌+◌, ◌^◌, ◌<◌, ◌≤◌, List, [], ◌∷◌, ◌++◌, length, map, sum, inl, inr, ap, refl, sym, ◌∙◌, arith, IsTrue, Some, false}
 use Rattle.std.specs.List.{AllByRecursion}
-use Rattle.std.specs.Prelude.{nat_lt, nat_le, ◌==◌, ◌&&◌}
 use Rattle.std.proofs.lemmas.Bool.{cases_lt, cond_both, or_cases}
 use Rattle.std.proofs.lemmas.Bool.Decides.{nat_tests}
 use Rattle.std.proofs.lemmas.Grind.{common_steps}
 use Rattle.std.proofs.lemmas.List.Sums.{sum_by-cons}
 use Rattle.std.proofs.lemmas.Option.{cond_some}
-use Rattle.arena_rules.specs.State.{State, Chunk, IsValid, AreChunks, cursor_of, used_length, used_bytes, is_used_by, is_range_used}
-use Rattle.arena_rules.specs.Moves.{Outcome, Resizing, resize, shrink_step, placed, stays, fails}
-use Rattle.arena_rules.specs.Moves.Resizing.{Anew, Moves, Stays as StaysThere}
+use Rattle.arena_rules.specs.State.{State, Chunk, IsValid, AreChunks, used_length, used_bytes, is_used_by, is_range_used}
+use Rattle.arena_rules.specs.Moves.{Resizing, resize, fails}
+use Rattle.arena_rules.specs.Moves.Resizing.{Anew}
 use Rattle.arena_rules.specs.Lists.{splice}
 use Rattle.arena_rules.specs.Blocks.{padded_size}
 use Rattle.arena_rules.proofs.UsedLemmas.{used_low, used_below_last}
@@ -17,7 +16,7 @@ use Rattle.arena_rules.proofs.UsedResizeLemmas.{padded_exact}
 use Rattle.arena_store.specs.Memory.{Memory, is_readable, image, bytes_from, written}
 use Rattle.arena_store.specs.Source.{View}
 use Rattle.arena_core.specs.Answers.{Answer}
-use Rattle.arena_core.specs.Answers.Answer.{Placed, Exhausted, Refused as AnswerRefused}
+use Rattle.arena_core.specs.Answers.Answer.{Placed}
 use Rattle.arena_core.specs.Frame.{IsApart, AreBlocksApart, ArePairwiseApart, Frame, Stays, padded}
 use Rattle.arena_core.specs.BlockCalls.{PlacesBlock, ResizesAfter, ShrinksBlock, GivesBack, WritesBlock}
 use Rattle.arena_core.specs.Resizes.{NoneReadable}
@@ -50,10 +49,7 @@ range_size m addr n (newest ∷ older) are used = elim (or_cases (is_used_by add
 
 -- It has at most 2 ^ 63 - 64 bytes.
 pub readable_size : (state : State) (b : Block) → IsValid state → IsTrue (is_readable state b) → b.size + 64 ≤ 2 ^ 63
-readable_size state b valid readable = elim (cases_lt 0 b.size) [
-  | inl some ↦ range_size state.min_align b.addr b.size state.chunks valid.chunks (is_filled state b some readable).used
-  | inr none ↦ omega arith
-]
+readable_size state b valid readable = grind (arith, nat_tests, cases_lt, range_size, is_filled)
 
 -- If no byte of the chunks is used, no range of some bytes is.
 unused_chunks : (chunks : List Chunk) (addr n : ℕ) → sum (map used_length chunks) ≡ 0 → 0 < n → is_range_used chunks addr n ≡ false
@@ -104,26 +100,12 @@ placed_pairwise old new size align b bs places readable apart = (placed_apart ol
 kept_placed : (way : Resizing) (old new : View) (block : Block) (size align k : ℕ) (answer : Answer) → (way ≡ Anew → ⊥)
     → (resize way old.memory.state block.addr size align k ≡ Some (fails old.memory.state) → ⊥)
     → ResizesAfter way old new block size align k answer → (b : Block) × (answer ≡ Placed b)
-kept_placed way old new block size align k (Placed b) kept moves is = (b, refl)
-kept_placed way old new block size align k (AnswerRefused n) kept moves is = absurd (moves is.outcome.1.step)
-kept_placed way old new block size align k Exhausted kept moves is = absurd (kept is.outcome.0)
+kept_placed way old new block size align k answer kept moves is = grind (arith, nat_tests)
 
 -- Shrinking without a greater alignment is never refused, and never runs out of memory.
 pub shrunk_placed : (old new : View) (block : Block) (size align : ℕ) (answer : Answer) → align ≤ block.align
     → ShrinksBlock old new block size align answer → (b : Block) × (answer ≡ Placed b)
-shrunk_placed old new block size align answer lower shrinks =
-    cond_both (nat_lt block.align align) _ _ Answers (λ higher. absurd (grind (arith, nat_tests)))
-    (λ test. cond_both (block.addr == cursor_of old.memory.state.chunks && nat_le block.size
-    (2 * shrink_step old.memory.state block.size size align)) _ _ Answers
-    (λ last. kept_placed (Moves (block.addr + shrink_step old.memory.state block.size size align)) old new block size align shrinks.0 answer
-    (λ anew. cc) (λ step.
-    let answers = ap (λ (o : Outcome). o.answer) (cond_some (shrinks.0 == 0) (placed old.memory.state _) _ step).1 in cc))
-    (λ other. kept_placed StaysThere old new block size align shrinks.0 answer (λ anew. cc) (λ step.
-    let answers = ap (λ (o : Outcome). o.answer) (cond_some (shrinks.0 == 0) (stays old.memory.state block.addr) _ step).1 in cc)))
-    shrinks.1
-  where
-    Answers : Resizing → Type 0
-    Answers = λ (way : Resizing). ResizesAfter way old new block size align shrinks.0 answer → (b : Block) × (answer ≡ Placed b)
+shrunk_placed old new block size align answer lower shrinks = grind (arith, nat_tests, cond_both, kept_placed, cond_some)
 
 -- ---- A block that is given back
 
@@ -178,13 +160,7 @@ wrote_readable old new b c at list writes = ap (λ (s : State). is_readable s c)
 -- An image with two lists written one after another.
 written_more : (f g : ℕ → ℕ) (addr p : ℕ) (xs ys : List ℕ) → g p ≡ written f addr xs p
     → written g (addr + length xs) ys p ≡ written f addr (xs ++ ys) p
-written_more f g addr p xs ys first = elim (cases_lt p addr) [
-  | inl below ↦ grind (arith, nat_tests, common_steps)
-  | inr low ↦ elim (cases_lt p (addr + length xs)) [
-    | inl inside ↦ grind (arith, nat_tests, common_steps)
-    | inr past ↦ grind (arith, nat_tests, common_steps)
-  ]
-]
+written_more f g addr p xs ys first = grind (arith, nat_tests, cases_lt, common_steps)
 
 -- Two adjacent writes are one.
 pub writes_more : (old mid new : Memory) (b : Block) (at : ℕ) (first second : List ℕ) → WritesBlock old mid b at first
@@ -201,5 +177,4 @@ writes_more old mid new b at first second before after = record {
 
 -- A write of no bytes changes nothing.
 pub writes_nothing : (memory : Memory) (b : Block) (at : ℕ) → IsValid memory.state → at ≤ b.size → WritesBlock memory memory b at []
-writes_nothing memory b at valid within =
-    writes_block memory memory b at [] valid refl refl (λ p. sym (written_none (image memory) (b.addr + at) p [] refl)) (omega arith)
+writes_nothing memory b at valid within = grind (arith, nat_tests, writes_block, written_none)

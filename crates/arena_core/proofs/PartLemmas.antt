@@ -8,7 +8,7 @@ use Rattle.std.proofs.lemmas.Grind.{common_steps}
 use Rattle.std.proofs.lemmas.List.Elements.{All-cons, All-head, All-tail}
 use Rattle.arena_rules.specs.State.{Chunk, IsValid, AreChunks, floor_of, is_used_by, is_range_used, start_of}
 use Rattle.arena_rules.proofs.UsedLemmas.{used_under}
-use Rattle.arena_region.specs.Bytes.{bytes, written_from}
+use Rattle.arena_region.specs.Bytes.{written_from}
 use Rattle.arena_store.specs.Memory.{Memory, image, is_readable, bytes_from, written, Writes}
 use Rattle.arena_store.specs.Lends.{bytes_with}
 use Rattle.arena_store.specs.Stored.{stored_chunk, stored_bytes, IsReady, IsStored, part_of, with_part, HasPart, HasPartIn, part_in, with_part_in}
@@ -198,9 +198,7 @@ module _ (m : ℕ) (a : Inside m) (memory : Memory) where
       rw first at (block_range block 0 block.size stands view readable (omega arith) some)
 
   pub range_fits : (addr n : ℕ) → IsRange addr n → addr < 2 ^ 64
-  range_fits addr n range =
-      let top : floor_of (chunks_in (a.newest ∷ a.older.items)) ≤ 2 ^ 64 - 1 = rw range.chunk at range.stands.valid.top in
-      omega (arith, part_under m addr n (a.newest ∷ a.older.items) range.valid range.has, top)
+  range_fits addr n range = grind (arith, nat_tests, chunks_in)
 
   by_image : (addr n : ℕ) → IsRange addr n → bytes_in (a.newest ∷ a.older.items) ≡ image memory
   by_image addr n range = subst (λ (w : Memory). bytes_in (a.newest ∷ a.older.items) ≡ image w) range.view (rw range.chunk refl)
@@ -290,23 +288,12 @@ module _ (m : ℕ) (a : Inside m) (memory : Memory) where
   -- no bytes, at the end of the newest chunk
   pub none_lent : (addr end n : ℕ) (list : List ℕ) → Stands m a → view_of m a ≡ memory → n ≡ 0
       → end ≡ a.newest.base + length a.newest.bytes.items → IsLent addr n list (with_part a.newest end list) a.older.items
-  none_lent addr end n list stands view none at =
-      let same : with_part a.newest end list ≡ a.newest = ap (λ (xs : List ℕ). record a.newest { bytes = bytes xs a.newest.bytes.low })
-      (written_behind a.newest.bytes.items list (end - a.newest.base) (omega (arith, at))) in
-      let empty : (n == 0) ≡ true = grind (arith, nat_tests) in
-      rw same (record {
-        stored = stands;
-        view = rw empty view;
-        image = λ sized p. ap (λ (w : Memory). image w p) view ∙ sym (written_none (image memory) addr p list (omega (arith, none, sized)));
-      })
+  none_lent addr end n list stands view none at = grind (arith, nat_tests, written_behind, written_none)
 
   pub lent_writes : (block : Block) (at n : ℕ) (list : List ℕ) (newest : StoredChunk) (older : List StoredChunk) → Stands m a
       → view_of m a ≡ memory → at + n ≤ block.size → IsLent (block.addr + at) n list newest older → length list ≡ n
       → WritesBlock memory (with_range memory (block.addr + at) n list) block at list
-  lent_writes block at n list newest older stands view within is sized =
-      writes_block memory (with_range memory (block.addr + at) n list) block at list
-      (subst (λ (w : Memory). IsValid w.state) view stands.valid) refl refl
-      (λ p. ap (λ (w : Memory). image w p) (sym is.view) ∙ is.image sized p) (omega (arith, sized, within))
+  lent_writes block at n list newest older stands view within is sized = grind (arith, nat_tests, writes_block)
 
   -- ---- Bytes moved into a range
 
@@ -317,11 +304,7 @@ module _ (m : ℕ) (a : Inside m) (memory : Memory) where
 
   pub moved : (from to n : ℕ) (list : List ℕ) (newest : StoredChunk) (older : List StoredChunk) → list ≡ bytes_from (image memory) from n
       → IsLent to n list newest older → IsMoved from to n newest older
-  moved from to n list newest older is made = record {
-    stored = made.stored;
-    state = ap (λ (w : Memory). w.state) made.view;
-    image = subst (Writes memory (view_with m a newest older) to) is (made.image (ap length is ∙ length-bytes (image memory) from n));
-  }
+  moved from to n list newest older is made = grind (arith, nat_tests, view_with, length-bytes)
 
   -- from any chunk to any chunk
   pub copied : (from to n : ℕ) (newest : StoredChunk) (older : List StoredChunk) → IsRange from n → IsRange to n

@@ -1,6 +1,5 @@
 -- A block in place of another: what is true of it, and of the rest of an arena.
-use Rattle.std.proofs.Common.{◌≡◌, ℕ, ◌+◌, ◌-◌, ◌%◌, ◌^◌, ◌<◌, ◌≤◌, min, inl, inr, ap, sym, refl, subst, ◌∙◌, arith, [], ◌∷◌, IsTrue, Some, true, false, length, eq-eqb}
-use Rattle.std.specs.Prelude.{◌==◌, ◌&&◌, nat_lt}
+use Rattle.std.proofs.Common.{◌≡◌, ℕ, ◌+◌, ◌%◌, ◌<◌, ◌≤◌, min, inl, inr, ap, sym, refl, subst, ◌∙◌, arith, [], ◌∷◌, IsTrue, Some, length, eq-eqb}
 use Rattle.std.proofs.lemmas.Bool.{cases_lt, or_left, or_right}
 use Rattle.std.proofs.lemmas.Bool.Decides.{nat_tests}
 use Rattle.arena_rules.specs.Rounding.{is_layout}
@@ -8,7 +7,6 @@ use Rattle.arena_rules.specs.State.{State, IsValid, is_range_used, start_of, cur
 use Rattle.arena_rules.specs.Moves.{Resizing, growing, shrinking, resize, grow, shrink}
 use Rattle.arena_rules.specs.Moves.Resizing.{Anew, Refused}
 use Rattle.arena_rules.specs.Blocks.{IsBlock, IsMovedBlock}
-use Rattle.arena_rules.specs.Causes.{counted}
 use Rattle.arena_rules.specs.Statistics.{Statistics, one_allocation, one_move}
 use Rattle.arena_rules.proofs.RoundingLemmas.{layout_power}
 use Rattle.arena_rules.proofs.CursorLemmas.{valid_set}
@@ -36,16 +34,7 @@ block_in state p size align = record { generation = state.generation; addr = p; 
 
 pub block_of : (state : State) (p size align : ℕ) → (0 < size → IsTrue (is_range_used state.chunks p size))
     → IsBlockOf state size align (block_in state p size align)
-block_of state p size align used = record {
-  generation = refl;
-  of_size = refl;
-  of_align = refl;
-  readable = elim (cases_lt 0 size) [
-    | inr none ↦ or_left (size == 0) (state.generation == state.generation && is_range_used state.chunks p size) (eq-eqb _ _ (omega arith))
-    | inl some ↦ or_right (size == 0) (state.generation == state.generation && is_range_used state.chunks p size)
-        (rw (eq-eqb state.generation _ refl) (used some))
-  ];
-}
+block_of state p size align used = grind (arith, nat_tests, cases_lt, or_left, eq-eqb, or_right)
 
 bytes_copied : (f g : ℕ → ℕ) (from to n : ℕ) → ((a : ℕ) → g a ≡ written f to (bytes_from f from n) a)
     → bytes_from g to n ≡ bytes_from f from n
@@ -56,16 +45,8 @@ bytes_copied f g from to n writes =
 pub resized_still : (memory : Memory) (block : Block) (size align n : ℕ) → IsValid memory.state → IsTrue (is_readable memory.state block)
     → size ≤ block.size
     → Resizes memory memory block (block_in memory.state block.addr size align) size align n
-resized_still memory block size align n valid readable smaller = record {
-  of_layout = block_of memory.state block.addr size align
-      (λ some. readable_part memory.state block block.addr size readable (omega arith) (omega arith) some);
-  bytes = refl;
-  frame = frame_weaken memory memory (block ∷ []) (block ∷ []) (block ∷ []) (block_in memory.state block.addr size align ∷ [])
-      (λ addr k some apart. apart)
-      (λ addr k some apart rest. (apart_part addr k block.addr block.size block.addr size apart.0 (omega arith) (omega arith), tt))
-      (frame_reflexive memory (block ∷ []));
-  valid = valid;
-}
+resized_still memory block size align n valid readable smaller =
+    grind (arith, nat_tests, readable_part, frame_weaken, apart_part, frame_reflexive)
 
 -- a block at the cursor moves together with it, with its first n bytes
 pub record MovesCursor (old new : Memory) (block : Block) (q size n : ℕ) : Type 0 where
@@ -145,8 +126,7 @@ resized_copied old mid new block b size align n is = record {
 -- a block from one of the arena's is aligned after it grew or shrank
 aligned_of : (old new : State) (block : Block) (size align : ℕ) (b : Block) → b.align ≡ align
     → IsMovedBlock old (place_of block) size align b.addr new → IsAligned new b
-aligned_of old new block size align b of_align moved =
-    record { own = rw of_align moved.aligned; least = rw moved.min_align moved.min_aligned }
+aligned_of old new block size align b of_align moved = grind (arith, nat_tests)
 
 pub grown_aligned : (old new : State) (block : Block) (size align : ℕ) (b : Block) → IsValid old → IsTrue (is_layout size align)
     → b.align ≡ align
@@ -197,13 +177,7 @@ resized_not memory source block size align valid = record {
 
 -- an allocation that was counted, counted as a move
 replaced_move : (s : Statistics) → replaced (one_allocation s) ≡ one_move s
-replaced_move s = elim (cases_lt (counted s.allocations 1) (2 ^ 64 - 1)) [
-  | inl more ↦
-      let one : counted s.allocations 1 - 1 ≡ s.allocations = omega arith in
-      let test : nat_lt (counted s.allocations 1) (2 ^ 64 - 1) ≡ true = grind (arith, nat_tests) in
-      rw (test, one) refl
-  | inr last ↦ let test : nat_lt (counted s.allocations 1) (2 ^ 64 - 1) ≡ false = grind (arith, nat_tests) in rw test refl
-]
+replaced_move s = grind (arith, nat_tests, cases_lt)
 
 -- a block was allocated again, and its first bytes were copied: it is at the cursor
 pub resized_anew : (old mid new : Memory) (before after : Source) (block b : Block) (size align k : ℕ)

@@ -119,9 +119,7 @@ byte_after m (suc k) p (newest ∷ older) (list ∷ bytes) valid under =
     rw test (byte_after m k p older bytes valid.2 under)
 
 byte_raised : (c p : ℕ) (chunks : List Chunk) (bytes : List (List ℕ)) → byte_in (raised c chunks) bytes p ≡ byte_in chunks bytes p
-byte_raised c p [] bytes = refl
-byte_raised c p (newest ∷ older) [] = refl
-byte_raised c p (newest ∷ older) (list ∷ bytes) = refl
+byte_raised c p chunks bytes = grind (arith, nat_tests)
 
 -- a checkpoint that is accepted has a mark that the state accepts
 pub accepted : (c : Checkpoint) (state : State) → IsTrue (is_accepted c state) → IsTrue (accepts (mark_at c) state)
@@ -151,6 +149,4 @@ goes_back old c valid holds paired = record {
 -- A block that is still readable has its bytes.
 pub went_back : (old new : Memory) (b : Block) → GoesBack old new → IsTrue (is_readable new.state b)
     → bytes_from (image new) b.addr b.size ≡ bytes_from (image old) b.addr b.size
-went_back old new b back readable =
-    bytes_same (image new) (image old) b.addr b.size
-    (λ i below. back.bytes (b.addr + i) (readable_part new.state b (b.addr + i) 1 readable (omega arith) (omega arith) (omega arith)))
+went_back old new b back readable = grind (arith, nat_tests, bytes_same, readable_part)

@@ -1,6 +1,6 @@
 -- What the fields of an arena represent.
-use Rattle.std.proofs.Common.{◌≡◌, ℕ, ◌+◌, ◌-◌, ◌<◌, ◌≤◌, ◌^◌, min, max, ap, sym, refl, subst, ◌∙◌, arith, List, [], ◌∷◌, false, Bool, length, eqb-true, eq-eqb, map, inl, inr, ◌⊎◌, sum, sum_by, Option, Some, true, leb-true}
-use Rattle.std.specs.Prelude.{◌==◌, ◌||◌, nat_le}
+use Rattle.std.proofs.Common.{◌≡◌, ℕ, ◌+◌, ◌-◌, ◌<◌, ◌≤◌, ◌^◌, min, ap, sym, refl, subst, arith, List, [], ◌∷◌, false, Bool, length, eqb-true, eq-eqb, map, inl, inr, ◌⊎◌, sum, sum_by, Option, Some, true, leb-true}
+use Rattle.std.specs.Prelude.{◌==◌, ◌||◌}
 use Rattle.std.specs.List.{All, list_any}
 use Rattle.std.proofs.lemmas.Bool.{cases_Bool}
 use Rattle.std.proofs.lemmas.Bool.Decides.{nat_tests}
@@ -8,7 +8,6 @@ use Rattle.std.proofs.lemmas.List.Sums.{sum-map, sum_by-cons}
 use Rattle.std.proofs.lemmas.List.Elements.{All-nil, All-cons, All-head, All-tail}
 use Rattle.std.proofs.lemmas.Option.{cond_some}
 use Rattle.std.proofs.lemmas.Simd.{map-map}
-use Rattle.arena_rules.specs.Rounding.{down}
 use Rattle.arena_rules.specs.State.{State, Chunk, AreChunks, IsChunk, IsValid, start_of, cursor_of, top_of, floor_of, with_cursor, used_length, is_used_by, is_range_used}
 use Rattle.arena_rules.specs.Search.{place, place_below}
 use Rattle.arena_rules.proofs.ResetLemmas.{reset_valid}
@@ -58,8 +57,7 @@ pub record IsCursor (state : State) (q : ℕ) : Type 0 where
 -- a valid state is valid in any generation
 at_generation : (state : State) (generation : ℕ) → generation ≤ 2 ^ 64 - 1 → IsValid state
     → IsValid (record state { generation = generation })
-at_generation state generation small valid =
-    record { min_align = valid.min_align; chunks = valid.chunks; top = valid.top; kind = valid.kind; generation = small }
+at_generation state generation small valid = grind (arith, nat_tests)
 
 pub differs : (n : ℕ) → (n == 16) ≡ false → n ≡ 16 → ⊥
 differs n test same = grind (arith, nat_tests)
@@ -68,22 +66,12 @@ module _ (m : ℕ) (a : Inside m) where
   -- whether there is a chunk
   pub kind : Stands m a → (((a.newest.base == 16) ≡ true) × (a.newest.base ≡ 16) × IsNone a.newest a.older.items)
       ⊎ ((a.newest.base == 16) ≡ false)
-  kind stands = elim (cases_Bool (a.newest.base == 16)) [
-    | inl none ↦ inl (none, eqb-true _ _ none, stands.none (eqb-true _ _ none))
-    | inr chunk ↦ inr chunk
-  ]
+  kind stands = grind (arith, nat_tests, cases_Bool, eqb-true)
 
   -- ---- Each chunk's numbers are in order
 
   pub newest_ordered : Stands m a → IsOrdered a.newest
-  newest_ordered stands = elim (kind stands) [
-    | inl none ↦
-        let size : length a.newest.bytes.items ≡ 0 = ap length none.2.bytes in
-        record { low = stands.ready; high = omega (arith, none.1, none.2.cursor); fits = omega (arith, none.1) }
-    | inr some ↦
-        let valid = rw some at stands.valid in
-        record { low = stands.ready; high = valid.chunks.0.cursor_high; fits = omega (arith, valid.top) }
-  ]
+  newest_ordered stands = grind (arith, nat_tests)
 
   pub older_ordered : Stands m a → All IsOrdered a.older.items
   older_ordered stands = elim (kind stands) [
@@ -99,15 +87,7 @@ module _ (m : ℕ) (a : Inside m) where
   -- a sum over all chunks is that of the newest and of the table
   pub sum_all : (memory : Memory) (f : Chunk → ℕ) → Stands m a → view_of m a ≡ memory → (a.newest.base ≡ 16 → f (stored_chunk a.newest) ≡ 0)
       → f (stored_chunk a.newest) + sum_by (λ c. f (stored_chunk c)) a.older.items ≡ sum (map f memory.state.chunks)
-  sum_all memory f stands view zero = subst
-      (λ (w : Memory). f (stored_chunk a.newest) + sum_by (λ c. f (stored_chunk c)) a.older.items ≡ sum (map f w.state.chunks)) view
-      (elim (kind stands) [
-        | inl none ↦ rw (none.0, none.2.older) (omega (arith, zero none.1))
-        | inr some ↦
-            rw some (sym (ap sum (map-map f stored_chunk (a.newest ∷ a.older.items))
-            ∙ sum-map (λ (c : StoredChunk). f (stored_chunk c)) (a.newest ∷ a.older.items)
-            ∙ sum_by-cons (λ (c : StoredChunk). f (stored_chunk c)) a.newest a.older.items))
-      ])
+  sum_all memory f stands view h = grind (arith, nat_tests, sum_by, map-map, sum-map, sum_by-cons)
 
   -- a sum over the newest and the table fits in 64 bits, if its terms are at most the sizes
   pub sum_has : (f : Chunk → ℕ) → Stands m a → (a.newest.base ≡ 16 → f (stored_chunk a.newest) ≡ 0)
@@ -143,36 +123,19 @@ module _ (m : ℕ) (a : Inside m) where
   -- the place in terms of the fields is the state's
   pub place_stored : (memory : Memory) (size align : ℕ) (found : Option ℕ) → Stands m a → view_of m a ≡ memory
       → found ≡ place_below a.newest.base a.newest.cursor size align m → place memory.state size align ≡ found
-  place_stored memory size align found stands view is = subst (λ (w : Memory). place w.state size align ≡ found) view
-      (elim (kind stands) [
-        | inl none ↦ rw (is, none.0, none.1, none.2.cursor) refl
-        | inr some ↦ rw (is, some) refl
-      ])
+  place_stored memory size align found stands view is = grind (arith, nat_tests)
 
   -- a place in the ready part is the state's, and ready
   pub place_ready : (memory : Memory) (size align p : ℕ) → Stands m a → view_of m a ≡ memory
       → Some p ≡ place_below (floor_in a.newest) a.newest.cursor size align m → (place memory.state size align ≡ Some p)
       × (floor_in a.newest ≤ p)
-  place_ready memory size align p stands view found =
-      let q : ℕ = down (a.newest.cursor - size) (max align m) in
-      let tested = cond_some (nat_le (floor_in a.newest) q) q p (sym found) in
-      let high : floor_in a.newest ≤ q = leb-true _ _ tested.0 in
-      let test : nat_le a.newest.base q ≡ true = grind (arith, nat_tests) in
-      (place_stored memory size align (Some p) stands view (rw test (ap Some (sym tested.1))), omega (arith, high, tested.1))
+  place_ready memory size align p stands view found = grind (arith, nat_tests, cond_some, leb-true)
 
   pub cursor_stored : (memory : Memory) → Stands m a → view_of m a ≡ memory → a.newest.cursor ≡ cursor_of memory.state.chunks
-  cursor_stored memory stands view = subst (λ (w : Memory). a.newest.cursor ≡ cursor_of w.state.chunks) view
-      (elim (kind stands) [
-        | inl none ↦ rw (none.0, none.2.cursor) refl
-        | inr some ↦ rw some refl
-      ])
+  cursor_stored memory stands view = grind (arith, nat_tests)
 
   pub start_stored : (memory : Memory) → Stands m a → view_of m a ≡ memory → a.newest.base ≡ start_of memory.state.chunks
-  start_stored memory stands view = subst (λ (w : Memory). a.newest.base ≡ start_of w.state.chunks) view
-      (elim (kind stands) [
-        | inl none ↦ rw none.0 none.1
-        | inr some ↦ rw some refl
-      ])
+  start_stored memory stands view = grind (arith, nat_tests)
 
   -- the newest chunk with another cursor, and ready from another index on
   abbrev pub moved_chunk : ℕ → ℕ → StoredChunk
@@ -184,27 +147,14 @@ module _ (m : ℕ) (a : Inside m) where
         statistics = memory.statistics;
         bytes = memory.bytes;
       }
-  cursor_view memory q low view = subst (λ (w : Memory). view_with m a (moved_chunk q low) a.older.items
-      ≡ record { state = with_cursor q w.state; statistics = w.statistics; bytes = w.bytes }) view
-      (elim (cases_Bool (a.newest.base == 16)) [ inl none ↦ rw none refl | inr some ↦ rw some refl ])
+  cursor_view memory q low view = grind (arith, nat_tests, cases_Bool)
 
   pub cursor_moved : (memory : Memory) (q low generation allocations reallocations : ℕ) → Stands m a → view_of m a ≡ memory
       → IsCursor memory.state q → generation ≤ 2 ^ 64 - 1 → a.newest.base + low ≤ q
       → IsStored (memory_of m a.is_growing generation allocations reallocations (moved_chunk q low) a.older.items)
       (moved_chunk q low) a.older.items
   cursor_moved memory q low generation allocations reallocations stands view moved small ready =
-      let at = subst (λ (w : Memory). IsCursor w.state q) (sym view) moved in
-      record {
-        valid = at_generation (view_with m a (moved_chunk q low) a.older.items).state generation small
-            (subst (λ (w : Memory). IsValid w.state) (sym (cursor_view (view_of m a) q low refl)) at.valid);
-        none = λ same.
-            let is = stands.none same in
-            let empty : (a.newest.base == 16) ≡ true = eq-eqb _ _ same in
-            let here = rw empty at at in
-            record { cursor = omega (arith, here.low, here.high); bytes = is.bytes; older = is.older };
-        ready = ready;
-        older_ready = stands.older_ready;
-      }
+      grind (arith, nat_tests, at_generation, eq-eqb)
 
   -- ---- A reset
 

@@ -1,11 +1,11 @@
 -- Walks over the chunks of an arena.
-use Rattle.std.proofs.Common.{◌≡◌, ℕ, ◌+◌, ◌<◌, ◌-◌, ap, sym, refl, subst, ◌∙◌, arith, Option, Some, None, List, [], ◌∷◌, map, take, take_all, false, inl, inr}
+use Rattle.std.proofs.Common.{◌≡◌, ℕ, ◌+◌, ◌<◌, ◌-◌, ap, sym, refl, subst, ◌∙◌, arith, Option, Some, None, List, [], ◌∷◌, map, take, take_all, false}
 use Rattle.std.specs.Prelude.{◌==◌, slice_index}
 use Rattle.std.specs.Borrow.{Bor}
 use Rattle.std.specs.List.{All}
 use Rattle.std.proofs.lemmas.Bool.Decides.{nat_tests}
 use Rattle.std.proofs.lemmas.List.{length-drop}
-use Rattle.std.proofs.lemmas.List.Elements.{All-nil, All-cons, All-head, All-tail}
+use Rattle.std.proofs.lemmas.List.Elements.{All-head, All-tail}
 use Rattle.std.proofs.lemmas.Simd.{map-map}
 use Rattle.std.proofs.Math.Path.{ap₂}
 use Rattle.arena_rules.specs.State.{Chunk, AreChunks, floor_of, used_length}
@@ -66,10 +66,7 @@ parts_in m f (c ∷ older) valid ordered same =
 module _ (m : ℕ) (a : Inside m) where
   -- each chunk of an open arena is in order
   pub stored_ordered : Stands m a → All IsOrdered (all_chunks a.newest a.older.items)
-  stored_ordered stands = elim (kind m a stands) [
-    | inl none ↦ rw none.0 (All-nil IsOrdered)
-    | inr some ↦ rw some (All-cons IsOrdered a.newest a.older.items (newest_ordered m a stands) (older_ordered m a stands))
-  ]
+  stored_ordered stands = grind (arith, nat_tests, kind, newest_ordered, older_ordered)
 
   -- the used parts, their ranges, and the chunks
   pub parts_stored : (memory : Memory) (chunks : List StoredChunk) → Stands m a → view_of m a ≡ memory
@@ -81,12 +78,8 @@ module _ (m : ℕ) (a : Inside m) where
 
   pub ranges_stored : (memory : Memory) (chunks : List StoredChunk) → view_of m a ≡ memory → chunks ≡ all_chunks a.newest a.older.items
       → map used_range chunks ≡ used_ranges memory.state
-  ranges_stored memory chunks view is =
-      rw is (subst (λ (w : Memory). map used_range (all_chunks a.newest a.older.items) ≡ used_ranges w.state) view
-      (sym (map-map (λ (c : Chunk). (c.cursor, used_length c)) stored_chunk (all_chunks a.newest a.older.items))))
+  ranges_stored memory chunks view is = grind (arith, nat_tests, map-map)
 
   pub chunks_stored : (memory : Memory) (chunks : List StoredChunk) → view_of m a ≡ memory → chunks ≡ all_chunks a.newest a.older.items
       → map (λ (c : StoredChunk). told_chunk (stored_chunk c)) chunks ≡ map told_chunk memory.state.chunks
-  chunks_stored memory chunks view is =
-      rw is (subst (λ (w : Memory). map (λ (c : StoredChunk). told_chunk (stored_chunk c)) (all_chunks a.newest a.older.items)
-      ≡ map told_chunk w.state.chunks) view (sym (map-map told_chunk stored_chunk (all_chunks a.newest a.older.items))))
+  chunks_stored memory chunks view is = grind (arith, nat_tests, map-map)

@@ -1,3 +1,4 @@
+use Rattle.std.proofs.lemmas.Bool.Decides.{nat_tests}
 use Rattle.std.proofs.Common.{ℕ, ◌+◌, ◌-◌, max, ◌∙◌, ap, sym, arith, List, ◌∷◌, length}
 use Rattle.arena_rules.specs.Rounding.{down}
 use Rattle.arena_rules.specs.Moves.{with_chunk}
@@ -13,13 +14,7 @@ returns-then-not-self-clause-added g c =
     adds_none c.args.self.now _ _ _ (ap (λ (w : Memory). w.state.is_growing) (sym c.self.view_is) ∙ c.if-not-self.true)
 
 pub returns-in_default-clause-added : goal.returns-in_default-clause-added
-returns-in_default-clause-added g c =
-    let all = asked_stored g.row.MIN_ALIGN c.self.inside c.args.self.now c.args.layout.size c.args.layout.align c.size.result c.end.result
-    c.self.invariant c.self.view_is c.if-not-self.false c.size.ensures c.end.ensures in
-    rw (c.reserve.ensures.items) (record {
-      added = rw (← all) (rw c.in_default.is at c.ask_above-base.ensures.granted);
-      asked = rw (← all) c.ask_above-base.ensures.asked;
-    })
+returns-in_default-clause-added g c = grind (arith, nat_tests, asked_stored)
 
 pub install-requires-clause-fits : goal.install-requires-clause-fits
 install-requires-clause-fits g c =
@@ -38,9 +33,7 @@ overflow_sub-last g c =
     omega (arith, room.holds, ap (λ (chunk : StoredChunk). chunk.cursor) c.install.ensures.newest)
 
 pub round_down_to-addr-requires : goal.round_down_to-addr-requires
-round_down_to-addr-requires g c =
-    rw c.max.ensures (max_power c.args.layout.align g.row.MIN_ALIGN (layout_power _ _ c.args.layout.valid)
-    (min_align_power g.row.MIN_ALIGN c.self.invariant.valid.min_align))
+round_down_to-addr-requires g c = grind (arith, nat_tests, max_power, layout_power, min_align_power)
 
 room : (g : Over) (c : goal.After-round_down_to-addr g)
     → IsRoom c.args.self.now.state c.args.layout.size c.args.layout.align c.ask_above-base.result.refused c.ask_above-base.result.base

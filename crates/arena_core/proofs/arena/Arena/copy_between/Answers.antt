@@ -1,4 +1,5 @@
-use Rattle.std.proofs.Common.{◌+◌, ap, refl, sym, subst, arith, length}
+use Rattle.std.proofs.lemmas.Bool.Decides.{nat_tests}
+use Rattle.std.proofs.Common.{◌+◌, ap, subst, arith}
 use Rattle.arena_rules.specs.State.{IsValid}
 use Rattle.arena_store.specs.Memory.{Memory, image}
 use Rattle.arena_store.proofs.BytesLemmas.{length-bytes, no_bytes, written_none}
@@ -8,11 +9,7 @@ use Rattle.arena_core.proofs.arena.Arena.copy_between.Given.{Over}
 use Rattle.arena_core.proofs.arena.Arena.copy_between.Goals as goal
 
 pub returns-then-size-eq0 : goal.returns-then-size-eq0
-returns-then-size-eq0 g c =
-    let none = ap length (no_bytes (image c.args.self.now) (c.args.source.addr + c.args.from) c.args.size c.if-size-eq0.true) in
-    writes_block _ _ c.args.target c.args.to _ c.known.ensures.valid refl refl
-    (λ p. sym (written_none (image c.args.self.now) (c.args.target.addr + c.args.to) p _ none))
-    (omega (arith, none, c.requires.target_range))
+returns-then-size-eq0 g c = grind (arith, nat_tests, no_bytes, writes_block, written_none)
 
 pub overflow_add-from : goal.overflow_add-from
 overflow_add-from g c = omega (
@@ -29,12 +26,10 @@ overflow_add-to g c = omega (
 )
 
 pub copy_bytes-requires-clause-source : goal.copy_bytes-requires-clause-source
-copy_bytes-requires-clause-source g c = (block_range g.row.MIN_ALIGN c.self.inside c.args.self.now c.args.source c.args.from c.args.size c.self.invariant c.self.view_is c.requires.source
-    c.requires.source_range c.if-size-eq0.false).has
+copy_bytes-requires-clause-source g c = grind (arith, nat_tests, block_range)
 
 pub copy_bytes-requires-clause-target : goal.copy_bytes-requires-clause-target
-copy_bytes-requires-clause-target g c = (block_range g.row.MIN_ALIGN c.self.inside c.args.self.now c.args.target c.args.to c.args.size c.self.invariant c.self.view_is c.requires.target
-    c.requires.target_range c.if-size-eq0.false).has
+copy_bytes-requires-clause-target g c = grind (arith, nat_tests, block_range)
 
 made : (g : Over) (c : goal.After-copy_bytes g)
     → IsMoved g.row.MIN_ALIGN c.self.inside c.args.self.now (c.args.source.addr + c.args.from) (c.args.target.addr + c.args.to) c.args.size

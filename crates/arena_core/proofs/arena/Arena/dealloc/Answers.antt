@@ -1,8 +1,8 @@
-use Rattle.std.proofs.Common.{◌+◌, ◌∙◌, sym, ap, subst, arith}
-use Rattle.arena_rules.specs.State.{State, IsValid}
+use Rattle.std.proofs.lemmas.Bool.Decides.{nat_tests}
+use Rattle.std.proofs.Common.{◌+◌, ◌∙◌, sym, ap, arith}
+use Rattle.arena_rules.specs.State.{State}
 use Rattle.arena_rules.proofs.RoundingLemmas.{min_align_power, min_align_positive, up_ge}
 use Rattle.arena_rules.proofs.ReturnLemmas.{IsReturn, dealloc_elsewhere}
-use Rattle.arena_store.specs.Memory.{Memory}
 use Rattle.arena_core.proofs.StoredLemmas.{cursor_stored, cursor_moved, cursor_view}
 use Rattle.arena_core.proofs.LastLemmas.{IsLast, is_last, last_returned, gives_back}
 use Rattle.arena_core.proofs.arena.Arena.dealloc.Given.{Over}
@@ -53,9 +53,4 @@ returns-then-block-self g c =
     (view ∙ ap (λ (s : State). record c.args.self.now { state = s }) (sym (back g c).step))
 
 pub returns-else-block-self : goal.returns-else-block-self
-returns-else-block-self g c =
-    let memory = c.args.self.now in
-    let same = sym (dealloc_elsewhere memory.state c.args.block.addr c.args.block.size
-    (λ at. c.if-block-self.false (at ∙ sym (cursor_stored g.row.MIN_ALIGN c.self.inside memory c.self.invariant c.self.view_is)))) in
-    gives_back memory memory c.args.block (subst (λ (w : Memory). IsValid w.state) c.self.view_is c.self.invariant.valid) c.requires
-    (ap (λ (s : State). record memory { state = s }) same)
+returns-else-block-self g c = grind (arith, nat_tests, dealloc_elsewhere, cursor_stored, gives_back)

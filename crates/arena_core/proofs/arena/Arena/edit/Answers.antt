@@ -1,3 +1,4 @@
+use Rattle.std.proofs.lemmas.Bool.Decides.{nat_tests}
 use Rattle.std.proofs.Common.{◌+◌, ◌∙◌, ap, arith, length, sym, subst, List, ℕ}
 use Rattle.arena_store.specs.Memory.{Memory, image}
 use Rattle.arena_store.proofs.BytesLemmas.{length-bytes}
@@ -6,15 +7,7 @@ use Rattle.arena_core.proofs.PartLemmas.{newest_range, range_fits, newest_part, 
 use Rattle.arena_core.proofs.arena.Arena.edit.Goals as goal
 
 pub returns-then-size-eq0 : goal.returns-then-size-eq0
-returns-then-size-eq0 g c =
-    let value = c.range_mut.ensures.value in
-    let sized = c.edit.auto.place ∙ ap length value ∙ length-bytes (image c.args.self.now) (c.args.block.addr + c.args.at) c.args.size in
-    record {
-      list = c.edit.new.place;
-      sized = sized;
-      related = subst (λ (l : List ℕ). g.E.Edit.relates c.args.e.now l c.edit.new.place) value c.edit.ensures;
-      writes = c.range_mut.ensures.writes c.edit.new.place sized;
-    }
+returns-then-size-eq0 g c = grind (arith, nat_tests, length-bytes)
 
 -- ---- In the newest chunk
 
@@ -32,11 +25,7 @@ part_at_mut-requires g c =
     record { low = omega (arith, part.ready, part.used); high = omega (arith, part.high, is.1) }
 
 pub edit-requires-2 : goal.edit-requires-2
-edit-requires-2 g c =
-    let is = newest_range g.row.MIN_ALIGN c.self.inside c.args.self.now c.args.block c.args.at c.args.size c.self.invariant c.self.view_is c.requires.readable c.requires.range
-    c.if-size-eq0.false c.if-block-newest.false in
-    subst (λ (l : List ℕ). g.E.Edit.suits c.args.e.now l) (sym (c.part_at_mut.ensures.value ∙ newest_bytes _ _ _ _ _ is.0 is.1))
-    c.requires.suits
+edit-requires-2 g c = grind (arith, nat_tests, newest_range, newest_bytes)
 
 pub invariant_of-self : goal.invariant_of-self
 invariant_of-self g c =

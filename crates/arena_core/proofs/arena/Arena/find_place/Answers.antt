@@ -1,4 +1,5 @@
-use Rattle.std.proofs.Common.{subst, Some, None}
+use Rattle.std.proofs.lemmas.Bool.Decides.{nat_tests}
+use Rattle.std.proofs.Common.{arith, subst, Some, None}
 use Rattle.std.proofs.lemmas.Result.{err_from_is_err_and}
 use Rattle.arena_rules.specs.State.{IsValid}
 use Rattle.arena_store.specs.Memory.{Memory}
@@ -33,9 +34,4 @@ returns-in_ok-added-in-None-clause-found g c =
     }
 
 pub returns-in_err-added-in-None-clause-refused : goal.returns-in_err-added-in-None-clause-refused
-returns-in_err-added-in-None-clause-refused g c =
-    let none = place_stored g.row.MIN_ALIGN c.self.inside c.args.self.now c.args.layout.size c.args.layout.align None c.self.invariant
-    c.self.view_is c.in-None.ensures in
-    let p = err_from_is_err_and c.from_residual.result c.from_residual.ensures.1 in
-    rw (p.1, p.2) (all_refused c.args.self.now c.add_chunk.new.self _ _ c.args.layout.size c.args.layout.align c.in_err-added-in-None.field-0.0
-    (subst (λ (w : Memory). IsValid w.state) c.self.view_is c.self.invariant.valid) none c.in_err-added-in-None.ensures.err c.in_err-added-in-None.ensures.added)
+returns-in_err-added-in-None-clause-refused g c = grind (arith, nat_tests, place_stored, err_from_is_err_and, all_refused)

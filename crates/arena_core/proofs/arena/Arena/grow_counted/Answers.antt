@@ -1,3 +1,4 @@
+use Rattle.std.proofs.lemmas.Bool.Decides.{nat_tests}
 use Rattle.std.proofs.Common.{◌≡◌, ℕ, ◌-◌, ◌∙◌, ap, sym, subst, arith}
 use Rattle.arena_rules.specs.Rounding.{up}
 use Rattle.arena_rules.specs.State.{IsValid}
@@ -13,17 +14,10 @@ pub round_up_to_unchecked-requires-clause-power : goal.round_up_to_unchecked-req
 round_up_to_unchecked-requires-clause-power g c = min_align_power g.row.MIN_ALIGN c.self.invariant.valid.min_align
 
 pub round_up_to_unchecked-requires-clause-fits : goal.round_up_to_unchecked-requires-clause-fits
-round_up_to_unchecked-requires-clause-fits g c =
-    omega (arith, layout_small _ _ c.args.layout.valid, min_align_le g.row.MIN_ALIGN c.self.invariant.valid.min_align)
+round_up_to_unchecked-requires-clause-fits g c = grind (arith, nat_tests, layout_small, min_align_le)
 
 pub overflow_sub-more : goal.overflow_sub-more
-overflow_sub-more g c =
-    omega (
-      arith,
-      c.requires.size,
-      c.round_up_to_unchecked.ensures,
-      up_ge c.args.layout.size g.row.MIN_ALIGN (min_align_positive g.row.MIN_ALIGN c.self.invariant.valid.min_align),
-    )
+overflow_sub-more g c = grind (arith, nat_tests, up_ge, min_align_positive)
 
 -- The growth isn't a valid layout.
 pub returns-in_default : goal.returns-in_default

@@ -1,3 +1,4 @@
+use Rattle.std.proofs.lemmas.Bool.Decides.{nat_tests}
 use Rattle.std.proofs.Common.{arith}
 use Rattle.arena_core.proofs.BlockCallLemmas.{wrote_fill, resizes_written}
 use Rattle.arena_core.proofs.arena.Arena.grow_zeroed.Goals as goal
@@ -7,5 +8,4 @@ returns-clause-grown g c = resizes_written _ _ c.grow.new.self c.fill.new.self _
     _ c.in_ok-grown.ensures c.fill.ensures (omega arith)
 
 pub returns-clause-zeros : goal.returns-clause-zeros
-returns-clause-zeros g c = rw c.in_ok-grown.ensures.1.outcome.of_layout.of_size at
-    (wrote_fill _ _ c.in_ok-grown.grown c.args.block.size _ 0 c.fill.ensures)
+returns-clause-zeros g c = grind (arith, nat_tests, wrote_fill)

@@ -1,5 +1,5 @@
+use Rattle.std.proofs.lemmas.Bool.Decides.{nat_tests}
 use Rattle.std.proofs.Common.{◌≡◌, ℕ, ◌∙◌, ap, subst, arith}
-use Rattle.arena_rules.specs.State.{IsValid}
 use Rattle.arena_rules.specs.Causes.{counted}
 use Rattle.arena_rules.specs.Statistics.{one_reallocation}
 use Rattle.arena_rules.proofs.CursorLemmas.{start_set}
@@ -11,37 +11,13 @@ use Rattle.arena_core.proofs.CursorMoveLemmas.{is_below, below_used}
 use Rattle.arena_core.proofs.arena.Arena.move_at_once.Goals as goal
 
 pub set_cursor-requires : goal.set_cursor-requires
-set_cursor-requires g c =
-    omega (arith, c.requires.low, start_stored g.row.MIN_ALIGN c.self.inside c.args.self.now c.self.invariant c.self.view_is)
+set_cursor-requires g c = grind (arith, nat_tests, start_stored)
 
 pub invariant_of-self : goal.invariant_of-self
-invariant_of-self g c =
-    let valid = subst (λ (w : Memory). IsValid w.state) c.self.view_is c.self.invariant.valid in
-    let moved = c.set_cursor.ensures in
-    rw moved.chunk (cursor_moved g.row.MIN_ALIGN c.self.inside c.args.self.now c.args.addr moved.low c.self.inside.generation
-    c.self.inside.allocations c.saturating_add-self-inside.result c.self.invariant c.self.view_is
-    (is_below c.args.self.now.state c.args.addr c.args.n valid c.requires) c.self.invariant.valid.generation moved.ready)
+invariant_of-self g c = grind (arith, nat_tests, cursor_moved, is_below)
 
 pub move_in_newest-requires : goal.move_in_newest-requires
-move_in_newest-requires g c =
-    let moved = c.set_cursor.ensures in
-    let used = below_used c.args.self.now.state c.args.addr c.args.n in
-    let start = start_set c.args.addr c.args.self.now.state.chunks in
-    rw (
-      moved.chunk,
-      ap (λ (w : Memory). w.state.chunks)
-          (cursor_view g.row.MIN_ALIGN c.self.inside c.args.self.now c.args.addr moved.low c.self.view_is),
-      cursor_stored g.row.MIN_ALIGN c.self.inside c.args.self.now c.self.invariant c.self.view_is,
-    ) (
-      omega arith,
-      (
-        λ some. used _ _ c.requires c.requires.high (omega arith) some,
-        (
-          λ some. used _ _ c.requires (omega arith) (omega (arith, c.requires.high)) some,
-          λ some. (omega (arith, start, c.requires.low, c.requires.high), omega (arith, start, c.requires.low)),
-        ),
-      ),
-    )
+move_in_newest-requires g c = grind (arith, nat_tests, below_used, start_set, cursor_view, cursor_stored)
 
 pub returns : goal.returns
 returns g c =

@@ -1,14 +1,12 @@
-use Rattle.std.proofs.Common.{ap, sym, length}
-use Rattle.arena_store.specs.Memory.{image}
+use Rattle.std.proofs.lemmas.Bool.Decides.{nat_tests}
+use Rattle.std.proofs.Common.{arith}
 use Rattle.arena_store.proofs.BytesLemmas.{no_bytes, written_none}
 use Rattle.arena_core.proofs.PartLemmas.{newest_part, newest_bytes, newest_lent, is_move, moved, IsMoved}
 use Rattle.arena_core.proofs.arena.Arena.move_in_newest.Given.{Over}
 use Rattle.arena_core.proofs.arena.Arena.move_in_newest.Goals as goal
 
 pub returns-then-n-eq0-clause-bytes : goal.returns-then-n-eq0-clause-bytes
-returns-then-n-eq0-clause-bytes g c =
-    λ p. sym (written_none (image c.args.self.now) c.args.to p
-    _ (ap length (no_bytes (image c.args.self.now) c.args.from c.args.n c.if-n-eq0.true)))
+returns-then-n-eq0-clause-bytes g c = grind (arith, nat_tests, written_none, no_bytes)
 
 pub shift_in-requires-clause-source : goal.shift_in-requires-clause-source
 shift_in-requires-clause-source g c =

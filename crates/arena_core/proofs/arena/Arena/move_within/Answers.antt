@@ -1,14 +1,12 @@
-use Rattle.std.proofs.Common.{ℕ, ◌+◌, arith, List, take, drop}
+use Rattle.std.proofs.lemmas.Bool.Decides.{nat_tests}
+use Rattle.std.proofs.Common.{ℕ, arith, List, take, drop}
 use Rattle.arena_rules.specs.Lists.{splice}
-use Rattle.arena_store.specs.Memory.{image}
 use Rattle.arena_store.proofs.BytesLemmas.{length-bytes}
 use Rattle.arena_core.proofs.BlockCallLemmas.{edits_by, writes_moved}
 use Rattle.arena_core.proofs.arena.Arena.move_within.Goals as goal
 
 pub edit-requires : goal.edit-requires
-edit-requires g c =
-    let sized = length-bytes (image c.args.self.now) (c.args.block.addr + 0) c.args.block.size in
-    (omega arith, (c.requires.readable, (omega arith, (omega (arith, sized, c.requires.source), omega (arith, sized, c.requires.target)))))
+edit-requires g c = grind (arith, nat_tests, length-bytes)
 
 pub returns : goal.returns
 returns g c =

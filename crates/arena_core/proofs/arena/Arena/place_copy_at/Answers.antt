@@ -1,7 +1,7 @@
-use Rattle.std.proofs.Common.{◌≡◌, ℕ, ◌∙◌, ap, subst, length, arith, inl, inr}
-use Rattle.arena_rules.specs.State.{IsValid}
+use Rattle.std.proofs.lemmas.Bool.Decides.{nat_tests}
+use Rattle.std.proofs.Common.{◌≡◌, ℕ, ◌∙◌, ap, subst, length, arith}
 use Rattle.arena_rules.proofs.CursorLemmas.{start_set}
-use Rattle.arena_store.specs.Memory.{Memory, image, bytes_from, written}
+use Rattle.arena_store.specs.Memory.{image, bytes_from, written}
 use Rattle.arena_core.specs.Adding.{placed_at}
 use Rattle.arena_store.proofs.BytesLemmas.{length-bytes}
 use Rattle.arena_core.proofs.FrameLemmas.{bytes_moved}
@@ -15,28 +15,7 @@ use Rattle.arena_core.proofs.arena.Arena.place_copy_at.Goals as goal
 -- ---- From the newest chunk
 
 pub move_in_newest-requires : goal.move_in_newest-requires
-move_in_newest-requires g c =
-    let valid = subst (λ (w : Memory). IsValid w.state) c.self.view_is c.self.invariant.valid in
-    let at = place_cursor c.args.self.now.state c.args.layout.size c.args.layout.align c.args.addr valid c.args.layout.valid
-    c.requires.place in
-    let start = start_set c.args.addr c.args.self.now.state.chunks in
-    rw c.place_at.ensures (
-      omega arith,
-      (
-        c.requires.source,
-        (
-          λ some. placed_used c.args.self.now c.args.layout.size c.args.layout.align c.args.addr c.args.n valid c.args.layout.valid
-              c.requires.place some c.requires.fits,
-          λ some. elim c.then-n-eq0.either [
-            | inl none ↦ absurd (omega (arith, some, none))
-            | inr newest ↦ (
-              omega (arith, newest.1, start, start_stored g.row.MIN_ALIGN c.self.inside c.args.self.now c.self.invariant c.self.view_is),
-              omega (arith, at.low, start),
-            )
-          ],
-        ),
-      ),
-    )
+move_in_newest-requires g c = grind (arith, nat_tests, place_cursor, start_set, placed_used, start_stored)
 
 pub returns-then-n-eq0-clause-bytes : goal.returns-then-n-eq0-clause-bytes
 returns-then-n-eq0-clause-bytes g c =

@@ -1,3 +1,4 @@
+use Rattle.std.proofs.lemmas.Bool.Decides.{nat_tests}
 use Rattle.std.proofs.Common.{◌≡◌, ℕ, ◌+◌, ◌∙◌, List, length, sym, arith, refl}
 use Rattle.arena_store.specs.Memory.{image}
 use Rattle.arena_store.proofs.BytesLemmas.{no_bytes}
@@ -57,10 +58,7 @@ returns-then-block-self g c =
 -- ---- In an older one
 
 pub bytes_mut-requires : goal.bytes_mut-requires
-bytes_mut-requires g c =
-    let is = older_range g.row.MIN_ALIGN c.self.inside c.args.self.now c.args.block c.args.at c.args.size c.self.invariant c.self.view_is c.requires.readable c.requires.range
-    c.if-size-eq0.false c.if-block-self.false in
-    older_part _ _ _ _ _ is.0 is.1
+bytes_mut-requires g c = grind (arith, nat_tests, older_range, older_part)
 
 pub invariant_of-self-lent-2 : goal.invariant_of-self-lent-2
 invariant_of-self-lent-2 g c w =

@@ -1,10 +1,7 @@
-use Rattle.std.proofs.Common.{subst, sym, ap, ◌∙◌}
-use Rattle.arena_core.specs.Checkpoints.{GoesBack, with_raised}
+use Rattle.std.proofs.lemmas.Bool.Decides.{nat_tests}
+use Rattle.std.proofs.Common.{arith}
 use Rattle.arena_core.proofs.RewindLemmas.{accepted, goes_back}
 use Rattle.arena_core.proofs.arena.Arena.rewind.Goals as goal
 
 pub returns-clause-back : goal.returns-clause-back
-returns-clause-back g c =
-    subst (GoesBack c.args.self.now) (sym (c.raise.ensures.memory ∙ ap (with_raised c.args.c.addr) c.keep_first.ensures.memory))
-    (goes_back c.args.self.now c.args.c c.keep_first.ensures.entry
-    (accepted c.args.c c.args.self.now.state c.requires) c.keep_first.ensures.paired)
+returns-clause-back g c = grind (arith, nat_tests, goes_back, accepted)

@@ -1,3 +1,4 @@
+use Rattle.std.proofs.lemmas.Bool.Decides.{nat_tests}
 use Rattle.std.proofs.Common.{◌∙◌, ap, sym, inl, inr, arith}
 use Rattle.arena_rules.specs.Statistics.{one_reallocation}
 use Rattle.arena_rules.proofs.RoundingLemmas.{max_power, min_align_power, layout_power}
@@ -21,9 +22,7 @@ returns-then-block-self g c =
     ∙ sym (cursor_stored g.row.MIN_ALIGN c.self.inside c.args.self.now c.self.invariant c.self.view_is))))))
 
 pub round_down_to-delta-requires : goal.round_down_to-delta-requires
-round_down_to-delta-requires g c = rw c.max.ensures
-    (max_power c.args.layout.align g.row.MIN_ALIGN (layout_power _ _ c.args.layout.valid)
-    (min_align_power g.row.MIN_ALIGN c.self.invariant.valid.min_align))
+round_down_to-delta-requires g c = grind (arith, nat_tests, max_power, layout_power, min_align_power)
 
 pub overflow_sub-block-2 : goal.overflow_sub-block-2
 overflow_sub-block-2 g c =

@@ -1,3 +1,4 @@
+use Rattle.std.proofs.lemmas.Bool.Decides.{nat_tests}
 use Rattle.std.proofs.Common.{arith}
 use Rattle.arena_core.proofs.CreatedLemmas.{created_empty, created_unasked, created_refused, created_first, first_stored}
 use Rattle.arena_core.proofs.arena.Arena.with_min_align_and_capacity.Goals as goal
@@ -13,13 +14,7 @@ returns-in_default g c =
     c.in_default.ensures.value
 
 pub over-requires : goal.over-requires
-over-requires g c = (
-  omega arith,
-  first_stored g.row.MIN_ALIGN c.args.capacity c.in-Some.size (g.C.ChunkSource.source c.args.chunks.now)
-      (g.C.ChunkSource.source c.request_region.new.self) c.requires c.if-capacity-eq0.false
-      c.in-Some.ensures.value c.in-Some-request_region.bytes c.unused-first.result c.in-Some-request_region.ensures.zeros
-      c.unused-first.ensures.chunk c.unused-first.ensures.ready,
-)
+over-requires g c = grind (arith, nat_tests, first_stored)
 
 pub returns-in-Some-request_region : goal.returns-in-Some-request_region
 returns-in-Some-request_region g c =

@@ -1,5 +1,6 @@
-use Rattle.std.proofs.Common.{◌≡◌, ◌∙◌, ◌+◌, ◌-◌, ◌∷◌, ℕ, ap, arith, refl, take_all, drop, length, length-drop, sym, subst}
-use Rattle.arena_store.specs.Stored.{chunks_left, oldest, IsOrdered}
+use Rattle.std.proofs.lemmas.Bool.Decides.{nat_tests}
+use Rattle.std.proofs.Common.{◌≡◌, ◌∙◌, ◌+◌, ◌-◌, ℕ, ap, arith, take_all, length, length-drop, subst}
+use Rattle.arena_store.specs.Stored.{oldest, IsOrdered}
 use Rattle.std.specs.List.{All}
 use Rattle.std.proofs.lemmas.List.Elements.{All-head, All-drop}
 use Rattle.arena_core.proofs.WalkLemmas.{newest_first, table_ordered, left_newest}
@@ -16,21 +17,7 @@ invariant_of-self c =
     }
 
 pub returns-in-Some : goal.returns-in-Some
-returns-in-Some c =
-    let walk = c.args.self.now in
-    let ordered = (newest_first walk.newest c.in-Some.newest walk.older.now.items c.in-Some.ensures.value walk.ordered).0 in
-    let from : ℕ = c.in-Some.newest.now.cursor - c.in-Some.newest.now.base in (
-      c.in-Some.newest.now,
-      left_newest walk.newest c.in-Some.newest (oldest walk.left walk.older.now.items) c.in-Some.ensures.value
-          ∙ ap (λ o. c.in-Some.newest.now ∷ chunks_left o (oldest walk.left walk.older.now.items)) (sym c.take.ensures.after),
-      ordered,
-      (
-        refl,
-        refl,
-        c.part.ensures ∙ take_all (c.len.result - from) (drop from c.in-Some.newest.now.bytes.items)
-            (omega (arith, c.len.ensures.value, length-drop from c.in-Some.newest.now.bytes.items)),
-      ),
-    )
+returns-in-Some c = grind (arith, nat_tests, newest_first, left_newest, take_all, length-drop)
 
 pub returns : goal.returns
 returns c =
