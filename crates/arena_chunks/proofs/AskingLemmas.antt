@@ -9,9 +9,8 @@ use Rattle.std.proofs.lemmas.List.{length-map, length-take}
 use Rattle.arena_rules.specs.Rounding.{up, is_layout, is_power}
 use Rattle.arena_rules.specs.State.{State, IsValid, top_of, cursor_of, newest_size, used_bytes, allocated_bytes}
 use Rattle.arena_rules.specs.Search.{place, asked, requests, alloc_requests}
-use Rattle.arena_rules.specs.Moves.{Outcome, Resizing, alloc, dealloc, resize, growing, growth, down_to, shrinking, shrink_step, stays, placed, fails}
+use Rattle.arena_rules.specs.Moves.{Outcome, Resizing, alloc, resize, growing, growth, down_to, shrinking, shrink_step, fails, resize_requests}
 use Rattle.arena_rules.specs.Moves.Resizing.{Stays, Moves, Anew, Refused as NotGrown}
-use Rattle.arena_rules.specs.Moves.{resize_requests}
 use Rattle.arena_rules.specs.Used.{unit_of}
 use Rattle.arena_rules.specs.Asking.{IsRequestWithin, HasGrown, most_asked}
 use Rattle.arena_rules.proofs.RoundingLemmas.{layout_power, up_close, power_positive, min_align_positive, min_align_le}
@@ -25,7 +24,7 @@ use Rattle.arena_store.specs.Source.{View, IsAsked}
 use Rattle.arena_chunks.specs.Asking.{AsksWithin, IsRefusedBySource, IsFull}
 use Rattle.arena_core.specs.Answers.{Answer}
 use Rattle.arena_core.specs.Answers.Answer.{Placed, Refused, Exhausted}
-use Rattle.arena_core.specs.BlockCalls.{PlacesBlock, ResizesBlock, GrowsBlock, ShrinksBlock, GivesBack, growing_of, shrinking_of}
+use Rattle.arena_core.specs.BlockCalls.{PlacesBlock, ResizesBlock, GrowsBlock, ShrinksBlock, GivesBack, growing_of}
 use Rattle.arena_store.specs.declared.block.Block.{Block}
 use Rattle.arena_chunks.proofs.UsedByCallLemmas.{anew_most, stays_used, grown_most}
 
@@ -65,19 +64,12 @@ module _ (bytes : ℕ) (old new : View) (block : Block) (size align : ℕ) (layo
     (fits : used_bytes old.memory.state + size + (unit_of old.memory.state align - 1) ≤ bytes) where
   way_requests : (way : Resizing) (k : ℕ) → IsValid old.memory.state
       → AllByRecursion (IsRequestWithin (most_asked bytes)) (resize_requests way old.memory.state size align k)
-  way_requests Anew k valid = all_requests old.memory.state size align k bytes valid small fits
-  way_requests way k valid = tt
+  way_requests way k valid = grind (arith, nat_tests, all_requests)
 
   way_grown : (way : Resizing) (k : ℕ) (outcome : Outcome) → IsValid old.memory.state
       → resize way old.memory.state block.addr size align k ≡ Some outcome → HasGrown old.memory.state outcome.state
-  way_grown Stays k outcome valid step =
-      rw (resize_stays old.memory.state Stays block.addr size align k outcome refl step) (grown_not old.memory.state)
-  way_grown (Moves q) k outcome valid step =
-      rw (resize_moves old.memory.state (Moves q) block.addr size align k q outcome refl step) (cursor_grown q old.memory.state)
-  way_grown Anew k outcome valid step =
-      alloc_grown old.memory.state size align k outcome valid (layout_power size align layout) small step
-  way_grown NotGrown k outcome valid step =
-      rw (resize_refused old.memory.state NotGrown block.addr size align k outcome refl step) (grown_not old.memory.state)
+  way_grown way k outcome valid step =
+      grind (arith, nat_tests, resize_stays, grown_not, resize_moves, cursor_grown, alloc_grown, layout_power, resize_refused)
 
   pub asks_resized : (way : Resizing) (answer : Answer) → ResizesBlock way old new block size align answer → AsksWithin bytes old new
   asks_resized way (Placed b) resizes =
@@ -97,10 +89,7 @@ module _ (bytes : ℕ) (old new : View) (block : Block) (size align : ℕ) (layo
 -- A block that is given back.
 pub asks_given_back : (bytes : ℕ) (old new : View) (b : Block) → GivesBack old.memory new.memory b → new.source ≡ old.source
     → AsksWithin bytes old new
-asks_given_back bytes old new b gives source =
-    let none = asks_nothing bytes old.memory.state old.source in
-    let state : new.memory.state ≡ dealloc old.memory.state b.addr b.size = ap (λ (m : Memory). m.state) gives.memory in
-    rw (state, source) (record { chunks = dealloc_grown old.memory.state b.addr b.size; refusals = none.refusals; told = none.told })
+asks_given_back bytes old new b gives source = grind (arith, nat_tests, asks_nothing, dealloc_grown)
 
 -- ---- Calls that are refused
 
@@ -127,17 +116,11 @@ starved_few old new size align layout small bounded growing low unplaced =
 -- An arena that doesn't grow has fewer bytes than are in use and requested.
 alloc_full : (old new : View) (size align : ℕ) → old.memory.state.is_growing ≡ false → IsTrue (is_layout size align)
     → IsUnplaced old new size align → IsFull (used_bytes old.memory.state + size + (unit_of old.memory.state align - 1)) old
-alloc_full old new size align still layout (k, step, asked, valid) =
-    let failed = alloc_failed old.memory.state old.memory.state size align k valid (layout_power size align layout) step in
-    record {
-      still = still;
-      short = omega (arith, newest_short old.memory.state size align valid failed.none, one_chunk old.memory.state valid still);
-    }
+alloc_full old new size align still layout h = grind (arith, nat_tests, alloc_failed, layout_power, newest_short, one_chunk)
 
 -- A block that is placed.
 placed_none : (old new : View) (size align k : ℕ) → PlacesBlock old new size align (Refused k) → IsUnplaced old new size align
-placed_none old new size align k places =
-    (places.0, places.1.outcome.1.step, places.1.outcome.1.asked, places.1.valid.entry)
+placed_none old new size align k places = grind (arith, nat_tests)
 
 pub placed_starved : (old new : View) (size align k : ℕ) → IsTrue (is_layout size align) → align ≤ 16 → size ≤ 2 ^ 60
     → old.memory.state.is_growing ≡ true → PlacesBlock old new size align (Refused k)
@@ -161,13 +144,7 @@ placed_full old new size align k layout still places = alloc_full old new size a
 -- If there is no place for a block, it was to be allocated again, unless it is refused for its size.
 refused_anew : (way : Resizing) (old new : View) (block : Block) (size align k : ℕ) → (way ≡ NotGrown → ⊥)
     → ResizesBlock way old new block size align (Refused k) → IsUnplaced old new size align
-refused_anew Anew old new block size align k fits resizes =
-    (resizes.0, resizes.1.outcome.1.step, resizes.1.outcome.1.asked, resizes.1.valid.entry)
-refused_anew NotGrown old new block size align k fits resizes = absurd (fits refl)
-refused_anew Stays old new block size align k fits resizes = absurd (let same : Some block.addr ≡ None = ap (λ (o : Outcome). o.answer)
-    (cond_some (resizes.0 == 0) (stays old.memory.state block.addr) _ resizes.1.outcome.1.step).1 in cc)
-refused_anew (Moves q) old new block size align k fits resizes = absurd (let same : Some q ≡ None = ap (λ (o : Outcome). o.answer)
-    (cond_some (resizes.0 == 0) (placed old.memory.state q) _ resizes.1.outcome.1.step).1 in cc)
+refused_anew way old new block size align k fits resizes = grind (arith, nat_tests, cond_some)
 
 -- A block whose alignment is a power of two and that grows to this size is never refused for its size.
 never_refused : (state : State) (p old_size old_align size align : ℕ) → IsValid state → IsTrue (is_power old_align) → old_align ≤ 16
@@ -191,9 +168,7 @@ never_refused state p old_size old_align size align valid power small bounded is
 
 grown_anew : (old new : View) (block : Block) (size align k : ℕ) → IsTrue (is_power block.align) → block.align ≤ 16 → size + 31 ≤ 2 ^ 63
     → GrowsBlock old new block size align (Refused k) → IsUnplaced old new size align
-grown_anew old new block size align k power low_align bounded grows =
-    refused_anew (growing_of old.memory block size align) old new block size align k
-    (never_refused old.memory.state block.addr block.size block.align size align grows.1.valid.entry power low_align bounded) grows
+grown_anew old new block size align k power low_align bounded grows = grind (arith, nat_tests, refused_anew, never_refused)
 
 pub grown_starved : (old new : View) (block : Block) (size align k : ℕ) → IsTrue (is_layout size align) → align ≤ 16
     → IsTrue (is_power block.align) → block.align ≤ 16 → size ≤ 2 ^ 60 → old.memory.state.is_growing ≡ true
@@ -233,9 +208,7 @@ shrinks_never state p old_size old_align size align =
 
 shrunk_anew : (old new : View) (block : Block) (size align k : ℕ) → ShrinksBlock old new block size align (Refused k)
     → IsUnplaced old new size align
-shrunk_anew old new block size align k =
-    refused_anew (shrinking_of old.memory block size align) old new block size align k
-    (shrinks_never old.memory.state block.addr block.size block.align size align)
+shrunk_anew old new block size align k = grind (arith, nat_tests, refused_anew, shrinks_never)
 
 pub shrunk_starved : (old new : View) (block : Block) (size align k : ℕ) → IsTrue (is_layout size align) → align ≤ 16 → size ≤ 2 ^ 60
     → old.memory.state.is_growing ≡ true → ShrinksBlock old new block size align (Refused k)

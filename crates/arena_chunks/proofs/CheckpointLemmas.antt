@@ -1,6 +1,6 @@
 -- Marks that an arena accepts, after calls on blocks.
-use Rattle.std.proofs.Common.{◌≡◌, ℕ, ap, sym, subst, ◌∙◌, refl, IsTrue, Some, List, eq-eqb}
-use Rattle.std.specs.Prelude.{◌==◌}
+use Rattle.std.proofs.lemmas.Bool.Decides.{nat_tests}
+use Rattle.std.proofs.Common.{arith, ◌≡◌, ℕ, ap, sym, subst, refl, IsTrue, Some, List, eq-eqb}
 use Rattle.std.proofs.lemmas.Bool.{and_from, and_parts}
 use Rattle.arena_rules.specs.State.{State, IsValid}
 use Rattle.arena_rules.specs.Back.{accepts, KeepsMark}
@@ -22,10 +22,7 @@ checkpoint_own state valid = and_from _ _ (eq-eqb state.generation state.generat
 -- an accepted mark that the call keeps
 by_mark : (c : Checkpoint) (old new : State) → IsTrue (is_accepted c old)
     → (IsTrue (accepts (mark_at c) old) → KeepsMark (mark_at c) old new) → KeepsCheckpoint c old new
-by_mark c old new holds keeps =
-    let parts = and_parts (c.generation == old.generation) (accepts (mark_at c) old) holds in
-    let kept = keeps parts.1 in
-    (and_from _ _ (ap (λ (g : ℕ). c.generation == g) kept.generation ∙ parts.0) kept.accepted, kept)
+by_mark c old new holds keeps = grind (arith, nat_tests, and_parts, and_from)
 
 pub checkpoint_still : (c : Checkpoint) (old new : State) → IsTrue (is_accepted c old) → new ≡ old → KeepsCheckpoint c old new
 checkpoint_still c old new holds same = subst (KeepsCheckpoint c old) (sym same) (by_mark c old old holds (still_keeps (mark_at c) old))

@@ -108,5 +108,4 @@ all_used state (b ∷ bs) readable = ((λ some. (is_filled state b some readable
 pub readable_together : (state : State) (bs : List Block) → AllByRecursion (λ (b : Block). IsTrue (is_readable state b)) bs
     → ArePairwiseApart bs
     → sum (map (λ (b : Block). b.size) bs) ≤ used_bytes state
-readable_together state bs readable apart =
-    omega (arith, used_together state.chunks bs (all_used state bs readable) apart, all_lengths state.chunks)
+readable_together state bs readable apart = grind (arith, nat_tests, used_together, all_used, all_lengths)

@@ -1,4 +1,5 @@
 -- How many bytes the calls on blocks bring into use, and how chunks grow by them.
+use Rattle.std.proofs.lemmas.Bool.Decides.{nat_tests}
 use Rattle.std.proofs.Common.{◌≡◌, ℕ, ◌+◌, ◌-◌, ◌%◌, ◌≤◌, false, Option, Some, None, ap, refl, sym, subst, ◌∙◌, arith, IsTrue}
 use Rattle.std.specs.Prelude.{◌≢◌}
 use Rattle.arena_rules.specs.Rounding.{is_layout}
@@ -27,16 +28,12 @@ use Rattle.arena_core.proofs.LayerLemmas.{readable_used}
 -- It brings its size into use.
 pub placed_least : (old new : View) (size align : ℕ) (b : Block) → IsTrue (is_layout size align) → PlacesBlock old new size align (Placed b)
     → used_bytes old.memory.state + size ≤ used_bytes new.memory.state
-placed_least old new size align b layout places =
-    alloc_least old.memory.state new.memory.state size align places.0 b.addr places.1.valid.entry
-    (layout_power size align layout) places.1.outcome.step
+placed_least old new size align b layout places = grind (arith, nat_tests, alloc_least, layout_power)
 
 -- It brings less than a unit more.
 pub placed_most : (old new : View) (size align : ℕ) (b : Block) → IsTrue (is_layout size align) → PlacesBlock old new size align (Placed b)
     → used_bytes new.memory.state ≤ used_bytes old.memory.state + size + (unit_of old.memory.state align - 1)
-placed_most old new size align b layout places =
-    alloc_most old.memory.state new.memory.state size align places.0 b.addr places.1.valid.entry
-    (layout_power size align layout) places.1.outcome.step
+placed_most old new size align b layout places = grind (arith, nat_tests, alloc_most, layout_power)
 
 -- Whole units below a cursor at a multiple of the unit bring exactly their size, up to alignment 16.
 pub placed_exact : (old new : View) (size align : ℕ) (b : Block) → IsTrue (is_layout size align) → align ≤ 16
@@ -66,28 +63,19 @@ module _ (old new : View) (block b : Block) (size align q : ℕ) (grows : GrowsB
 
   -- It brings at least what it grows by.
   pub grown_least : used_bytes old.memory.state + (size - block.size) ≤ used_bytes new.memory.state
-  grown_least = omega (
-    arith,
-    moved_used,
-    growth_least old.memory.state block.addr block.size block.align size align q grows.1.valid.entry is,
-  )
+  grown_least = grind (arith, nat_tests, moved_used, growth_least)
 
   -- It brings less than the least alignment and less than a unit more.
   pub grown_most : used_bytes new.memory.state
       ≤ used_bytes old.memory.state + (size - block.size) + (old.memory.state.min_align - 1)
       + (unit_of old.memory.state block.align - 1)
-  grown_most = omega (
-    arith,
-    moved_used,
-    growth_most old.memory.state block.addr block.size block.align size align q grows.1.valid.entry is,
-  )
+  grown_most = grind (arith, nat_tests, moved_used, growth_most)
 
   -- By whole units, to a multiple of the least alignment, it brings exactly what it grows by.
   pub grown_exact : block.addr % block.align ≡ 0 → size % old.memory.state.min_align ≡ 0
       → (size - block.size) % unit_of old.memory.state block.align ≡ 0
       → used_bytes new.memory.state ≡ used_bytes old.memory.state + (size - block.size)
-  grown_exact aligned whole by = moved_used ∙ ap (λ (n : ℕ). used_bytes old.memory.state + n)
-      (growth_exact old.memory.state block.addr block.size block.align size align q grows.1.valid.entry is aligned whole by)
+  grown_exact aligned whole by = grind (arith, nat_tests, moved_used, growth_exact)
 
 -- A block that moves up as it shrinks frees as many bytes as it moves.
 pub shrunk_used : (old new : View) (block b : Block) (size align q : ℕ) → IsTrue (is_readable old.memory.state block)
@@ -102,23 +90,18 @@ shrunk_used old new block b size align q readable shrinks is =
 -- A block that stays changes nothing.
 pub stays_used : (old new : View) (block b : Block) (size align : ℕ) → ResizesBlock Stays old new block size align (Placed b)
     → used_bytes new.memory.state ≡ used_bytes old.memory.state
-stays_used old new block b size align is =
-    ap (λ (s : State). used_bytes s)
-    (resize_stays old.memory.state Stays block.addr size align is.0
-    (record { answer = Some b.addr; state = new.memory.state }) refl is.1.outcome.step)
+stays_used old new block b size align is = grind (arith, nat_tests, resize_stays)
 
 -- A block that is placed again is a new block.
 pub anew_least : (old new : View) (block b : Block) (size align : ℕ) → IsTrue (is_layout size align)
     → ResizesBlock Anew old new block size align (Placed b)
     → used_bytes old.memory.state + size ≤ used_bytes new.memory.state
-anew_least old new block b size align layout is =
-    alloc_least old.memory.state new.memory.state size align is.0 b.addr is.1.valid.entry (layout_power size align layout) is.1.outcome.step
+anew_least old new block b size align layout is = grind (arith, nat_tests, alloc_least, layout_power)
 
 pub anew_most : (old new : View) (block b : Block) (size align : ℕ) → IsTrue (is_layout size align)
     → ResizesBlock Anew old new block size align (Placed b)
     → used_bytes new.memory.state ≤ used_bytes old.memory.state + size + (unit_of old.memory.state align - 1)
-anew_most old new block b size align layout is =
-    alloc_most old.memory.state new.memory.state size align is.0 b.addr is.1.valid.entry (layout_power size align layout) is.1.outcome.step
+anew_most old new block b size align layout is = grind (arith, nat_tests, alloc_most, layout_power)
 
 -- ---- A block that is given back
 
@@ -138,10 +121,7 @@ returned_used old new b readable gives at =
 pub returned_size : (old new : Memory) (b : Block) → IsTrue (is_readable old.state b) → GivesBack old new b
     → b.addr ≡ cursor_of old.state.chunks → old.state.min_align ≡ 1
     → used_bytes new.state + b.size ≡ used_bytes old.state
-returned_size old new b readable gives at one =
-    let unpadded : padded_size old.state.min_align b.addr b.size ≡ b.size =
-    rw one (padded_exact 1 b.addr b.size (omega arith) (omega arith) (omega arith)) in
-    ap (λ (n : ℕ). used_bytes new.state + n) (sym unpadded) ∙ returned_used old new b readable gives at
+returned_size old new b readable gives at one = grind (arith, nat_tests, padded_exact, returned_used)
 
 -- Elsewhere it frees none.
 pub returned_elsewhere : (old new : Memory) (b : Block) → GivesBack old new b → b.addr ≢ cursor_of old.state.chunks

@@ -1,10 +1,11 @@
 -- What a call that changes one name's block does to the others.
+use Rattle.std.proofs.lemmas.Bool.Decides.{nat_tests}
 use Rattle.std.proofs.Common.{◌≡◌, ◌≢◌, ℕ, ◌+◌, ◌-◌, ◌%◌, ◌<◌, ◌≤◌, ◌⊎◌, inl, inr, ap, sym, subst, ◌∙◌, arith, List, true, Some, IsTrue, length, eq-eqb}
 use Rattle.std.specs.Prelude.{◌==◌}
 use Rattle.std.specs.FinMap as finite
 use Rattle.std.proofs.lemmas.Bool.{cases_eq, cases_lt, or_left, or_right}
 use Rattle.std.proofs.lemmas.Option.{same_Some}
-use Rattle.arena_rules.specs.Rounding.{up, is_layout}
+use Rattle.arena_rules.specs.Rounding.{is_layout}
 use Rattle.arena_rules.specs.State.{State, IsValid, is_used, is_range_used, AreApart, is_place_used}
 use Rattle.arena_rules.specs.Back.{Point, accepts, KeepsMark}
 use Rattle.arena_rules.specs.Blocks.{IsBlock, IsMovedBlock, padded_size}
@@ -30,14 +31,11 @@ use Rattle.arena_core.proofs.WrittenLemmas.{bytes_same}
 
 -- a part of a range that is apart from a padded place is, too
 beside_part : (m : ℕ) (b : Place) (addr n i : ℕ) → i < n → IsBeside m b addr n → IsBeside m b (addr + i) 1
-beside_part m b addr n i below beside = λ filled one.
-    elim (beside filled (omega arith)) [ inl above ↦ inl (omega arith) | inr under ↦ inr (omega arith) ]
+beside_part m b addr n i below beside = grind (arith, nat_tests)
 
 -- an empty padded place at a multiple has no addresses
 pub padded_empty : (m : ℕ) (b : Place) → 0 < m → b.addr % m ≡ 0 → b.size ≡ 0 → padded_size m b.addr b.size ≡ 0
-padded_empty m b positive aligned none =
-    let here : b.addr + b.size ≡ b.addr = omega arith in
-    omega (arith, ap (λ (x : ℕ). up x m) here ∙ up_same b.addr m positive aligned)
+padded_empty m b positive aligned none = grind (arith, nat_tests, up_same)
 
 used_place : (state : State) (p : Place) → (0 < p.size → IsTrue (is_range_used state.chunks p.addr p.size)) → IsTrue (is_place_used state p)
 used_place state p used = elim (cases_lt 0 p.size) [
@@ -108,9 +106,7 @@ module _ (old new : Memory) (names after : Held) (name : ℕ) (a b : Place) (hol
 
   bytes_stay : (q : ℕ) (p : Place) → q ≢ name → finite.get names q ≡ Some p
       → bytes_from (image new) p.addr p.size ≡ bytes_from (image old) p.addr p.size
-  bytes_stay q p other at = bytes_same (image new) (image old) p.addr p.size (λ i below.
-      let part = others_part q p other at i below in
-      change.bytes (p.addr + i) part.0 part.1)
+  bytes_stay q p other at = grind (arith, nat_tests, bytes_same, others_part)
 
   away : (q : ℕ) (p : Place) → q ≢ name → finite.get names q ≡ Some p → AreApart b.addr b.size p.addr p.size
   away q p other at = λ filled some.
@@ -171,15 +167,7 @@ module _ (old new : Memory) (names after : Held) (name : ℕ) (a b : Place) (hol
 
   bytes_changed : (call : Call) (k : ℕ) (reply : Reply) (marks : Marks) (bytes : Contents) → HoldsBytes old names bytes
       → (stepped : IsStep call k reply old new names after name b marks bytes) → HoldsBytes new after stepped.next
-  bytes_changed call k reply marks bytes held stepped = record {
-    each = λ q p at. elim (held_cases q p at) [
-      | inl own ↦
-          let here = stepped.own (ap (finite.get after) (sym own.0) ∙ at ∙ ap Some (sym own.1)) in
-          subst (λ (x : Place). finite.get stepped.next q ≡ Some (bytes_from (image new) x.addr x.size)) own.1
-          (ap (finite.get stepped.next) own.0 ∙ here)
-      | inr other ↦ stepped.rest q other.0 ∙ held.each q p other.1 ∙ ap Some (sym (bytes_stay q p other.0 other.1))
-    ];
-  }
+  bytes_changed call k reply marks bytes held stepped = grind (arith, nat_tests, held_cases, bytes_stay)
 
   pub serves_changed : (call : Call) (reply : Reply) (before later : Source)
       → ((marks : Marks) (bytes : Contents) → HoldsBytes old names bytes
@@ -225,24 +213,4 @@ pub change_placed : (old new : Memory) (names : Held) (name size align p : ℕ) 
     → IsChange old new names (finite.insert names name (record { addr = p; size = size; align = align })) name a
     (record { addr = p; size = size; align = align })
 change_placed old new names name size align p a before blocks holds gone good moved valid frame apart marks =
-    let m : ℕ = old.state.min_align in
-    let b : Place = record { addr = p; size = size; align = align } in
-    record {
-      valid = valid;
-      min_align = moved.min_align;
-      used = λ addr n some used beside. frame.kept addr n some used (apart addr n beside);
-      bytes = λ addr used beside. frame.bytes addr used (apart addr 1 beside);
-      gone = gone;
-      beside = λ addr used beside. moved.beside addr 1 (omega arith) used beside;
-      rest = λ q other. get-insert_other names name q b other;
-      own = λ o is. (
-        same_Some b o (sym (get-inserted names name b) ∙ is),
-        record {
-          layout = sym good;
-          aligned = moved.aligned;
-          min_aligned = rw moved.min_align moved.min_aligned;
-          used = used_place new.state b moved.used;
-        },
-      );
-      marks = marks;
-    }
+    grind (arith, nat_tests, get-insert_other, same_Some, get-inserted, used_place)

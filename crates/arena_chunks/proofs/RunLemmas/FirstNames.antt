@@ -1,5 +1,6 @@
 -- Blocks that names hold, where the places of the first names are in a list: what changes with a place in the list, or
 -- elsewhere.
+use Rattle.std.proofs.lemmas.Bool.Decides.{nat_tests}
 use Rattle.std.proofs.Common.{◌≡◌, ◌≢◌, ℕ, zero, suc, ◌+◌, ◌<◌, ◌≤◌, ◌⊎◌, inl, inr, ap, refl, sym, ◌∙◌, arith, List, [], ◌∷◌, cond, Option, Some, None, length, get_or, drop}
 use Rattle.std.specs.Prelude.{slice_set}
 use Rattle.std.specs.Ordering.{nat_cmp, eq_by_cmp}
@@ -134,6 +135,4 @@ none_below n = λ name within. get-empty nat_cmp name
 pub with_some : (places : List (Option Place)) (others : Held) (at : ℕ) (o : Option Place) (p : Place) → at < length places
     → o ≡ get_or places at o → o ≡ Some p
     → held_with at (drop at places) others ≡ finite.insert (held_with (at + 1) (drop (at + 1) places) others) at p
-with_some places others at o p within is some =
-    ap (λ (os : List (Option Place)). held_with at os others) (drop_more places at o within)
-    ∙ ap (λ (x : Option Place). held_with at (x ∷ drop (at + 1) places) others) (sym is ∙ some)
+with_some places others at o p within is some = grind (arith, nat_tests, drop_more)

@@ -8,11 +8,9 @@ use Rattle.std.proofs.lemmas.Bool.Decides.{nat_tests}
 use Rattle.std.proofs.lemmas.List.{length-map, length-append, take_at}
 use Rattle.std.proofs.lemmas.Option.{none-some, same_Some}
 use Rattle.arena_rules.specs.State.{State, Chunk, cursor_of, is_range_used, is_place_used}
-use Rattle.arena_rules.specs.Back.{Point}
 use Rattle.call_rules.specs.Machine.{Held, is_left}
 use Rattle.arena_rules.specs.declared.place.Place.{Place}
 use Rattle.arena_rules.proofs.ReturnLemmas.{used_filled}
-use Rattle.arena_core.specs.Checkpoints.{mark_at}
 use Rattle.arena_chunks.specs.Runs.Marks.{Noted, named, AreWithin, IsAtCursor, Notes, stands, LetsGo}
 use Rattle.arena_chunks.specs.Runs.Serving.{Holds}
 use Rattle.arena_chunks.specs.declared.runs.marks.Mark.{Mark}
@@ -108,19 +106,12 @@ inserted_within names name a b found same smaller q p at = elim (cases_eq q name
 
 -- a call that resizes a block may take memory if there is a mark
 pub noting : (first : Bool) (marks : List Mark) → 0 < length marks → IsTrue (first || false || (nat_lt 0 (length (named marks)) && true))
-noting true marks some = refl
-noting false marks some = let there : nat_lt 0 (length (named marks)) ≡ true =
-    lt-ltb _ _ (omega (arith, some, length-map {B = ℕ × Point} marks (λ (m : Mark). (m.name, mark_at m.checkpoint)))) in rw there refl
+noting first marks some = grind (arith, nat_tests, lt-ltb, length-map)
 
 -- ---- Names that are removed
 
 pub letting_first : (state : State) (names : Held) (log : List ℕ) (from : ℕ) → from ≡ length log → LetsGo state names names from log
-letting_first state names log from all = record {
-  within = omega (arith, all);
-  left = λ q is. refl;
-  less = λ q p at. at;
-  ended = λ q p there at. absurd (omega (arith, all, there.1, there.2));
-}
+letting_first state names log from all = grind (arith, nat_tests)
 
 -- one more name was read, and removed if its block isn't left
 pub letting_next : (state : State) (names held next : Held) (from name : ℕ) (log : List ℕ) → 0 < from → name ≡ get_or log (from - 1) 0

@@ -1,4 +1,5 @@
 -- Marks, and what remains true of them after each call.
+use Rattle.std.proofs.lemmas.Bool.Decides.{nat_tests}
 use Rattle.std.proofs.Common.{◌≡◌, ◌≢◌, ℕ, ◌+◌, ◌≤◌, inl, inr, ap, refl, sym, subst, ◌∙◌, arith, List, [], ◌∷◌, ◌++◌, Bool, true, false, IsTrue, Some, length, get_or}
 use Rattle.std.specs.Option.{is_some}
 use Rattle.std.specs.List.{AllByRecursion}
@@ -37,13 +38,7 @@ pub lay : (inside : Bool) (old new : State) (names held : Held) (m : Mark) (q : 
     → ((p : Place) → finite.get held q ≡ Some p → (before : Place) × (finite.get names q ≡ Some before) × (before.addr ≡ p.addr)
     × (p.size ≤ before.size)) → Lies inside new held m q
     → Lies inside old names m q
-lay inside old new names held m q kept was lies =
-    let before = was lies.0 lies.1 in (
-      before.0,
-      before.1,
-      omega (arith, lies.2, before.3),
-      ap (is_in_part (mark_at m.checkpoint) old) before.2 ∙ sym (kept.part lies.0.addr) ∙ lies.3,
-    )
+lay inside old new names held m q kept was lies = grind (arith, nat_tests)
 
 module _ (old new : State) (names held : Held) (log : List ℕ) (m : Mark) (kept : KeepsMark (mark_at m.checkpoint) old new)
     (tracked : TracksMark old names log m) where

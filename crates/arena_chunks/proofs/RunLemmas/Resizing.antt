@@ -1,5 +1,5 @@
 -- What a call that resizes a name's block does to an arena and its names.
-use Rattle.std.proofs.Common.{◌≡◌, ◌≢◌, ℕ, ◌+◌, ◌-◌, ◌<◌, ◌≤◌, ◌⊎◌, ◌++◌, min, length, take, inl, inr, refl, sym, ◌∙◌, arith, List, [], ◌∷◌, true, false, Option, Some, None, IsTrue, replicate, eqb-true, eq-eqb}
+use Rattle.std.proofs.Common.{◌≡◌, ◌≢◌, ℕ, ◌+◌, ◌-◌, ◌<◌, ◌≤◌, ◌⊎◌, ◌++◌, min, length, take, refl, sym, ◌∙◌, arith, List, [], ◌∷◌, true, false, Option, Some, None, IsTrue, replicate, eqb-true, eq-eqb}
 use Rattle.std.specs.Prelude.{◌==◌, ◌&&◌, nat_lt}
 use Rattle.std.specs.Option.{is_none, option_and_then}
 use Rattle.std.specs.FinMap as finite
@@ -121,21 +121,18 @@ pub resizing_step : (fill : Option ℕ) (name size align k : ℕ) (m : Machine) 
     ≡ at_name m name k (λ place bytes. gives_layout m k name size align (is_wrong fill place.size size) (given fill place.size bytes size)
     (resize (way_of fill m.state place size align) m.state place.addr size align k))
 unfolding step grow shrink
-resizing_step (Some fill) name size align k m = refl
-resizing_step None name size align k m = refl
+resizing_step fill name size align k m = grind (arith, nat_tests)
 
 pub resizing_anew : (fill : Option ℕ) (name size align : ℕ) (m : Machine) → placed_anew (resizing fill name size align) m
     ≡ option_and_then {U = ℕ × ℕ} (λ (p : Place). resized_anew (way_of fill m.state p size align) size align (is_wrong fill p.size size))
     (finite.get m.held name)
 unfolding placed_anew
-resizing_anew (Some fill) name size align m = refl
-resizing_anew None name size align m = refl
+resizing_anew fill name size align m = grind (arith, nat_tests)
 
 -- a call that places nothing counts nothing
 pub resizing_counts : (fill : Option ℕ) (name size align : ℕ) (reply : Reply) (m : Machine) (s : Statistics) → is_placed reply ≡ false
     → call_statistics (resizing fill name size align) reply m s ≡ s
-resizing_counts (Some fill) name size align reply m s none = rw none refl
-resizing_counts None name size align reply m s none = rw none refl
+resizing_counts fill name size align reply m s none = grind (arith, nat_tests)
 
 -- a call that is refused because of its arguments
 pub resizing_still : (fill : Option ℕ) (reply : Reply) (memory : Memory) (names : Held) (noted : Noted) (name size align : ℕ)
@@ -165,11 +162,7 @@ pub resizing_takes : (fill : Option ℕ) (memory : Memory) (names : Held) (marks
     → (way_of fill memory.state a size align ≡ Anew) ⊎ (0 < length marks)
     → IsTrue (takes_memory (resizing fill name size align) (machine_of memory names (named marks) bytes))
 unfolding placed_anew
-resizing_takes (Some fill) memory names marks bytes name size align a found good right (inl anew) = rw (found, ← good, right, anew) refl
-resizing_takes (Some fill) memory names marks bytes name size align a found good right (inr some) =
-    rw (found, ← good, right) (noting _ _ some)
-resizing_takes None memory names marks bytes name size align a found good right (inl anew) = rw (found, ← good, right, anew) refl
-resizing_takes None memory names marks bytes name size align a found good right (inr some) = rw (found, ← good, right) (noting _ _ some)
+resizing_takes fill memory names marks bytes name size align a found good right h = grind (arith, nat_tests, noting)
 
 -- the block was given the layout
 pub serves_resized : (fill : Option ℕ) (old new : Memory) (names : Held) (name size align k : ℕ) (a : Place) (block : Block)

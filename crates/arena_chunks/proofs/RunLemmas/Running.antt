@@ -1,5 +1,6 @@
 -- The state of a run of calls over an arena, call by call.
-use Rattle.std.proofs.Common.{◌≡◌, ℕ, ◌+◌, ◌<◌, ◌≤◌, ap, refl, sym, subst, ◌∙◌, arith, List, [], ◌∷◌, ◌++◌, false, IsTrue, Option, Some, None, length, take, take_all, sum, append_assoc, append-nil}
+use Rattle.std.proofs.lemmas.Bool.Decides.{nat_tests}
+use Rattle.std.proofs.Common.{◌≡◌, ℕ, ◌+◌, ◌<◌, ◌≤◌, ap, refl, sym, subst, ◌∙◌, arith, List, [], ◌∷◌, ◌++◌, false, IsTrue, Option, Some, length, take, take_all, sum, append_assoc, append-nil}
 use Rattle.std.specs.Prelude.{slice_get}
 use Rattle.std.specs.Option.{option_map}
 use Rattle.std.specs.List.{list_any}
@@ -27,8 +28,7 @@ use Rattle.arena_store.proofs.AskedLemmas.{asked_none, asked_more}
 use Rattle.arena_chunks.proofs.RunLemmas.Serving.{holds_none, no_bytes_held, none_kept}
 
 mapped : {A B P : Type 0} (f : A → B) → (o : Option A) (y : B) → option_map f o ≡ Some y → ((x : A) → o ≡ Some x → f x ≡ y → P) → P
-mapped f None y is go = absurd (none-some y is)
-mapped f (Some x) y is go = go x refl (same_Some (f x) y is)
+mapped f o y is go = grind (arith, nat_tests, none-some, same_Some)
 
 -- A run continues by one step, and asks for what that call asks for.
 run_more : (m mid next : Machine) (calls : List Call) (call : Call) (ks : List ℕ) (k : ℕ) (replies : List Reply) (reply : Reply)

@@ -83,8 +83,7 @@ pub none_kept : (memory : Memory) → Keeps memory memory finite.empty
 none_kept memory = record { kept = record { used = λ addr used. used; bytes = λ addr used. refl }; beside = λ q p at. no_name q p at }
 
 pub none_of : {X : Type 0} → (o : Option X) → false ≡ is_some o → o ≡ None
-none_of None test = refl
-none_of (Some x) test = cc
+none_of o test = grind (arith, nat_tests)
 
 -- ---- Calls on a held name
 

@@ -1,4 +1,5 @@
-use Rattle.std.proofs.Common.{ap, ◌∙◌, refl, inr}
+use Rattle.std.proofs.lemmas.Bool.Decides.{nat_tests}
+use Rattle.std.proofs.Common.{arith, ap, ◌∙◌, refl, inr}
 use Rattle.std.specs.Option.{is_some}
 use Rattle.call_rules.specs.Machine.{step}
 use Rattle.call_rules.specs.Requests.{placed_anew}
@@ -69,21 +70,12 @@ returns-in-Err-AllocErr-clause-serves g c =
 
 pub returns-in_err-insert-clause-wants : goal.returns-in_err-insert-clause-wants
 unfolding placed_anew
-returns-in_err-insert-clause-wants g c =
-    let free = none_of _ (c.if-is_some.ensures ∙ ap is_some c.get.ensures) in
-    on_err c.from_residual.result (record { takes = λ bytes. rw (free, ← c.in-Some.ensures.valid) refl; same = refl })
+returns-in_err-insert-clause-wants g c = grind (arith, nat_tests, none_of, on_err)
 
 pub returns-in-Err-OutOfMemory-clause-wants : goal.returns-in-Err-OutOfMemory-clause-wants
 unfolding placed_anew
-returns-in-Err-OutOfMemory-clause-wants g c =
-    let free = none_of _ (c.if-is_some.ensures ∙ ap is_some c.get.ensures) in
-    record {
-      takes = λ bytes. rw (free, ← c.in-Some.ensures.valid) refl;
-      same = (rw c.in-Err-OutOfMemory.field-0-is at c.in-Err-OutOfMemory.ensures).outcome.same;
-    }
+returns-in-Err-OutOfMemory-clause-wants g c = grind (arith, nat_tests, none_of)
 
 pub returns-in_err-note-clause-wants : goal.returns-in_err-note-clause-wants
 unfolding placed_anew
-returns-in_err-note-clause-wants g c =
-    let free = none_of _ (c.if-is_some.ensures ∙ ap is_some c.get.ensures) in
-    on_err c.from_residual-in_err-note.result (record { takes = λ bytes. rw (free, ← c.in-Some.ensures.valid) refl; same = refl })
+returns-in_err-note-clause-wants g c = grind (arith, nat_tests, none_of, on_err)

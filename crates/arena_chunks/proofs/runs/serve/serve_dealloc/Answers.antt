@@ -1,3 +1,4 @@
+use Rattle.std.proofs.lemmas.Bool.Decides.{nat_tests}
 use Rattle.std.proofs.Common.{arith, sym, ◌∙◌, refl}
 use Rattle.call_rules.specs.Machine.{step}
 use Rattle.call_rules.specs.Requests.{placed_anew}
@@ -14,11 +15,7 @@ returns-in_default-clause-serves g c = λ source.
     (asks_none _ _ _ _ _ _ refl refl (λ marks bytes. refl) (λ marks bytes. refl)))
 
 pub dealloc-requires : goal.dealloc-requires
-dealloc-requires g c = (
-  omega arith,
-  rw c.block_at.ensures
-      (readable_at _ _ c.args.name c.in-Some.place c.requires (sym c.remove.ensures.place ∙ c.in-Some.is)),
-)
+dealloc-requires g c = grind (arith, nat_tests, readable_at)
 
 pub returns-clause-serves : goal.returns-clause-serves
 returns-clause-serves g c = λ source.

@@ -1,12 +1,10 @@
-use Rattle.std.proofs.Common.{◌≡◌, false, refl, arith}
-use Rattle.std.specs.Option.{is_some}
-use Rattle.std.specs.FinMap as map
+use Rattle.std.proofs.lemmas.Bool.Decides.{nat_tests}
+use Rattle.std.proofs.Common.{refl, arith}
 use Rattle.std.proofs.lemmas.Bool.{or_left}
 use Rattle.std.proofs.lemmas.Result.{on_err_weaker, on_ok_weaker}
 use Rattle.call_rules.specs.Machine.{step}
 use Rattle.call_rules.specs.Requests.{placed_anew}
 use Rattle.arena_store.specs.Source.{view}
-use Rattle.arena_chunks.specs.Runs.Replies.{has_bytes}
 use Rattle.arena_chunks.specs.Runs.Serving.{ServesRun}
 use Rattle.call_rules.proofs.HeldLemmas.{less_removed}
 use Rattle.arena_chunks.proofs.RunLemmas.Log.{notes_still}
@@ -23,28 +21,11 @@ returns-in-Read-clause-serves g c = rw c.in-Read.is
 
 pub returns-in-Read-clause-wants : goal.returns-in-Read-clause-wants
 unfolding placed_anew
-returns-in-Read-clause-wants g c = on_err_weaker c.serve_read.result
-    (λ held. record {
-      takes = λ bytes. rw c.in-Read.is (or_left (is_some (map.get c.args.run.now.names c.in-Read.name)) _ held);
-      same = refl;
-    }) c.serve_read.ensures.wants
+returns-in-Read-clause-wants g c = grind (arith, nat_tests, on_err_weaker, or_left)
 
 pub take-requires : goal.take-requires
-take-requires g c = record { fixed = fixed; room = omega (arith, c.requires.room) }
-  where
-    fixed : has_bytes c.match-call.reply ≡ false
-    fixed = elim c.match-call.branch [
-      | in-Alloc+in_ok-reply-in-Alloc w ↦ rw w.reply-is w.in_ok-reply-in-Alloc.ensures.fixed
-      | in-Grow+in_ok-reply-in-Grow w ↦ rw w.reply-is w.in_ok-reply-in-Grow.ensures.fixed
-      | in-Shrink+in_ok-reply-in-Shrink w ↦ rw w.reply-is w.in_ok-reply-in-Shrink.ensures.fixed
-      | in-Dealloc w ↦ rw w.reply-is w.serve_dealloc-reply.ensures.fixed
-      | in-Write w ↦ rw w.reply-is w.serve_write-reply.ensures.fixed
-      | in-Mark+in_ok-reply-in-Mark w ↦ rw w.reply-is w.in_ok-reply-in-Mark.ensures.fixed
-      | in-Back w ↦ rw w.reply-is w.serve_back-reply.ensures.fixed
-      | in-Reset w ↦ rw w.reply-is w.serve_reset-reply.ensures.fixed
-      | in-Used w ↦ rw w.reply-is refl
-      | in-Allocated w ↦ rw w.reply-is refl
-    ]
+take-requires g c =
+    grind (arith, nat_tests, in-Alloc+in_ok-reply-in-Alloc, in-Grow+in_ok-reply-in-Grow, in-Shrink+in_ok-reply-in-Shrink, in-Dealloc, in-Write, in-Mark+in_ok-reply-in-Mark, in-Back, in-Reset, in-Used, in-Allocated)
 
 pub returns-clause-serves : goal.returns-clause-serves
 unfolding step placed_anew

@@ -1,4 +1,5 @@
-use Rattle.std.proofs.Common.{refl, sym}
+use Rattle.std.proofs.lemmas.Bool.Decides.{nat_tests}
+use Rattle.std.proofs.Common.{arith, refl, sym}
 use Rattle.call_rules.specs.Machine.{step}
 use Rattle.call_rules.specs.Requests.{placed_anew}
 use Rattle.call_rules.specs.declared.calls.Call.TheVariants.{Mark}
@@ -24,5 +25,4 @@ returns-clause-serves g c = λ source.
 
 pub returns-in_err-set-clause-wants : goal.returns-in_err-set-clause-wants
 unfolding placed_anew
-returns-in_err-set-clause-wants g c = λ source.
-    on_err c.from_residual.result (record { takes = λ bytes. rw (none_of _ c.if-has.ensures) refl; same = refl })
+returns-in_err-set-clause-wants g c = grind (arith, nat_tests, on_err, none_of)

@@ -1,3 +1,4 @@
+use Rattle.std.proofs.lemmas.Bool.Decides.{nat_tests}
 use Rattle.std.proofs.Common.{arith, sym, ◌∙◌, refl}
 use Rattle.std.proofs.lemmas.Result.{on_ok_weaker}
 use Rattle.call_rules.specs.Machine.{step}
@@ -20,11 +21,7 @@ returns-in_default-clause-serves g c = λ source. (
 )
 
 pub read-requires : goal.read-requires
-read-requires g c = (
-  omega arith,
-  rw c.block_at.ensures
-      (readable_at _ _ c.args.name c.in-Some.place c.requires.holds (sym c.get.ensures ∙ c.in-Some.is)),
-)
+read-requires g c = grind (arith, nat_tests, readable_at)
 
 pub returns-clause-serves : goal.returns-clause-serves
 unfolding step placed_anew

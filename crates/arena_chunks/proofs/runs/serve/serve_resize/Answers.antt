@@ -1,8 +1,7 @@
-use Rattle.std.proofs.Common.{◌≡◌, inl, inr, ap, arith, sym, ◌∙◌, refl}
+use Rattle.std.proofs.lemmas.Bool.Decides.{nat_tests}
+use Rattle.std.proofs.Common.{◌≡◌, arith, sym, ◌∙◌, refl}
 use Rattle.std.specs.Prelude.{◌==◌, ◌&&◌}
 use Rattle.std.specs.Option.{is_none}
-use Rattle.arena_store.specs.Memory.{Memory}
-use Rattle.arena_store.specs.Source.{view}
 use Rattle.call_rules.specs.declared.calls.Reply.TheVariants.{NoSuchName, BadLayout, OutOfRange}
 use Rattle.arena_core.proofs.AnswerLemmas.{on_err}
 use Rattle.arena_chunks.proofs.RunLemmas.Log.{notes_settled, notes_refused}
@@ -35,14 +34,7 @@ returns-then-is_wrong-clause-serves g c =
     ∙ rw (← good, wrong) refl) (rw (found, ← good, wrong) refl)
 
 pub resize-requires : goal.resize-requires
-resize-requires g c =
-    let right = sym c.is_wrong.ensures ∙ c.if-is_wrong.false in (
-      omega arith,
-      (
-        readable_at _ _ c.args.wanted.name c.in-Some.place c.requires (sym c.get.ensures ∙ c.in-Some.is),
-        rw c.in-Some-new.ensures.value.0 right,
-      ),
-    )
+resize-requires g c = grind (arith, nat_tests, readable_at)
 
 pub returns-after-is_none-clause-serves : goal.returns-after-is_none-clause-serves
 returns-after-is_none-clause-serves g c =
@@ -80,24 +72,7 @@ returns-in-Err-AllocErr-clause-serves g c =
 -- ---- Where memory runs out
 
 pub returns-in-Err-OutOfMemory-clause-wants : goal.returns-in-Err-OutOfMemory-clause-wants
-returns-in-Err-OutOfMemory-clause-wants g c =
-    let found = sym c.get.ensures ∙ c.in-Some.is in
-    let value = c.in-Some-new.ensures.value in
-    let right = sym c.is_wrong.ensures ∙ c.if-is_wrong.false in
-    let filling = rw (value.0, value.1) at (rw c.in-Err-OutOfMemory.field-0-is at c.in-Err-OutOfMemory.ensures) in record {
-      takes = λ bytes. resizing_takes c.args.fill c.args.arena.now c.args.run.now.names _ bytes c.args.wanted.name c.args.wanted.size
-          c.args.wanted.align c.in-Some.place found
-          c.in-Some-new.ensures.valid right (inl filling.resizes.outcome.0);
-      same = ap (λ (m : Memory). view m (g.C.ChunkSource.source c.resize.new.chunks)) filling.fills ∙ filling.resizes.outcome.1.same;
-    }
+returns-in-Err-OutOfMemory-clause-wants g c = grind (arith, nat_tests, resizing_takes)
 
 pub returns-in_err-note-clause-wants : goal.returns-in_err-note-clause-wants
-returns-in_err-note-clause-wants g c =
-    let found = sym c.get.ensures ∙ c.in-Some.is in
-    let right = sym c.is_wrong.ensures ∙ c.if-is_wrong.false in
-    on_err c.from_residual.result (record {
-      takes = λ bytes. resizing_takes c.args.fill c.args.arena.now c.args.run.now.names _ bytes c.args.wanted.name c.args.wanted.size
-          c.args.wanted.align c.in-Some.place found
-          c.in-Some-new.ensures.valid right (inr c.in_err-note.ensures.err);
-      same = refl;
-    })
+returns-in_err-note-clause-wants g c = grind (arith, nat_tests, on_err, resizing_takes)

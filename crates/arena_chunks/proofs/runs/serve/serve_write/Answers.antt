@@ -1,3 +1,4 @@
+use Rattle.std.proofs.lemmas.Bool.Decides.{nat_tests}
 use Rattle.std.proofs.Common.{◌+◌, ◌<◌, arith, sym, ◌∙◌, length, lt-ltb, refl}
 use Rattle.call_rules.specs.Machine.{step}
 use Rattle.call_rules.specs.Requests.{placed_anew}
@@ -24,14 +25,7 @@ returns-then-len-place-clause-serves g c = λ source.
     ∙ rw (lt-ltb _ _ past) refl) (asks_none _ _ _ _ _ _ refl refl (λ marks bytes. refl) (λ marks bytes. refl))
 
 pub write-requires : goal.write-requires
-write-requires g c = (
-  omega arith,
-  (
-    rw c.block_at.ensures
-        (readable_at _ _ c.args.name c.in-Some.place c.requires (sym c.get.ensures ∙ c.in-Some.is)),
-    rw c.block_at.ensures (omega arith),
-  ),
-)
+write-requires g c = grind (arith, nat_tests, readable_at)
 
 pub returns-clause-serves : goal.returns-clause-serves
 returns-clause-serves g c = λ source.

@@ -1,4 +1,5 @@
-use Rattle.std.proofs.Common.{◌≡◌, ◌-◌, List, false, refl, sym, ◌∙◌, ap, subst, arith, IsTrue, length, reverse, take, get_or, eq-eqb, ne_eqb}
+use Rattle.std.proofs.lemmas.Bool.Decides.{nat_tests}
+use Rattle.std.proofs.Common.{◌≡◌, ◌-◌, List, false, refl, sym, ◌∙◌, ap, subst, arith, IsTrue, length, reverse, get_or, eq-eqb, ne_eqb}
 use Rattle.std.specs.Prelude.{◌==◌}
 use Rattle.std.specs.Option.{is_some}
 use Rattle.std.proofs.lemmas.List.{get_or_read, get_or-take}
@@ -45,17 +46,7 @@ returns-clause-marks c =
     ∙ ap (λ (n : Noted). marks_from c.args.name n.marks) c.self.view_is
 
 pub returns-clause-newest : goal.returns-clause-newest
-returns-clause-newest c =
-    let ending = c.loop-count.invariant.ending in
-    let items : List Mark = c.loop-count.self-inside.list.items in
-    let m : Mark = c.index-2.result.now in
-    let is : m ≡ get_or items (c.loop-count.count - 1) m = c.index-2.ensures
-    ∙ ap (λ (xs : List Mark). get_or xs (c.loop-count.count - 1) m) c.truncate.ensures.items
-    ∙ get_or-take c.loop-count.count items (c.loop-count.count - 1) m (omega (arith, ending.some)) in (
-      reverse (take (c.loop-count.count - 1) items),
-      ap reverse c.truncate.ensures.items
-          ∙ newest_first items c.loop-count.count m ending.some ending.within is,
-    )
+returns-clause-newest c = grind (arith, nat_tests, get_or, get_or-take, reverse, newest_first)
 
 pub returns-clause-log : goal.returns-clause-log
 returns-clause-log c = c.loop-count.invariant.log ∙ ap (λ (n : Noted). n.log) c.self.view_is

@@ -1,3 +1,4 @@
+use Rattle.std.proofs.lemmas.Bool.Decides.{nat_tests}
 use Rattle.std.proofs.Common.{arith}
 use Rattle.arena_chunks.proofs.RunLemmas.FirstNames.{none_below, void_below, void_holds}
 use Rattle.arena_chunks.proofs.runs.names.Names.clear.Goals as goal
@@ -6,6 +7,4 @@ pub invariant_of-self : goal.invariant_of-self
 invariant_of-self c = (omega (arith, c.loop-at.invariant.long, c.self.invariant.0), rw c.new.ensures (none_below _))
 
 pub returns : goal.returns
-returns c = rw c.new.ensures
-    (void_holds 0 c.loop-at.self-inside.first.items (void_below c.loop-at.self-inside.first.items
-    (λ k within. c.loop-at.invariant.none k (omega (arith, within, c.loop-at.invariant.long, c.loop-at.invariant.end)))))
+returns c = grind (arith, nat_tests, void_holds, void_below)

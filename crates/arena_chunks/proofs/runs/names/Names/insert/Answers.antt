@@ -1,10 +1,10 @@
+use Rattle.std.proofs.lemmas.Bool.Decides.{nat_tests}
 use Rattle.std.proofs.Common.{arith, length}
 use Rattle.arena_chunks.proofs.RunLemmas.FirstNames.{get_other, insert_first, insert_other, none_inserted}
 use Rattle.arena_chunks.proofs.runs.names.Names.insert.Goals as goal
 
 pub returns-then-at-len-clause-ok : goal.returns-then-at-len-clause-ok
-returns-then-at-len-clause-ok c = rw (← c.self.view_is)
-    (insert_first c.self.inside.first.items c.self.inside.others c.args.name c.args.place c.self.invariant.1 (omega arith))
+returns-then-at-len-clause-ok c = grind (arith, nat_tests, insert_first)
 
 pub invariant_of-self-2 : goal.invariant_of-self-2
 invariant_of-self-2 c = (
@@ -14,12 +14,7 @@ invariant_of-self-2 c = (
 )
 
 pub returns-clause-ok : goal.returns-clause-ok
-returns-clause-ok c = rw (← c.self.view_is, c.in_ok-insert.ensures.ok)
-    (insert_other c.self.inside.first.items c.self.inside.others c.args.name c.args.place (omega arith))
+returns-clause-ok c = grind (arith, nat_tests, insert_other)
 
 pub returns-in_err-insert-clause-held : goal.returns-in_err-insert-clause-held
-returns-in_err-insert-clause-held c = rw (
-  ← c.self.view_is,
-  ← get_other c.self.inside.first.items c.self.inside.others c.args.name (omega arith),
-)
-    (λ held. absurd (grind (arith, c.in_err-insert.ensures.held held)))
+returns-in_err-insert-clause-held c = grind (arith, nat_tests, get_other)

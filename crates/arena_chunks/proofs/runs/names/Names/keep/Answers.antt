@@ -1,4 +1,5 @@
-use Rattle.std.proofs.Common.{◌≡◌, ℕ, Bool, Option, Some, sym, ◌∙◌, refl, eq-eqb}
+use Rattle.std.proofs.lemmas.Bool.Decides.{nat_tests}
+use Rattle.std.proofs.Common.{arith, ◌≡◌, ℕ, Bool, Option, Some, sym, ◌∙◌, refl, eq-eqb}
 use Rattle.std.specs.FinMap as finite
 use Rattle.arena_rules.specs.State.{State}
 use Rattle.arena_rules.specs.declared.place.Place.{Place}
@@ -21,22 +22,13 @@ has : (state : State) (names : Held) (name : ℕ) {p : Place} {b : Block} {o : O
 has state names name result block found some = result ∙ rw (block, ← found, some, eq-eqb state.generation state.generation refl) refl
 
 pub returns-then-not-is_held_place-clause-answer : goal.returns-then-not-is_held_place-clause-answer
-returns-then-not-is_held_place-clause-answer g c =
-    let is = has c.args.arena.now.state c.args.self.now c.args.name c.is_held_place.ensures c.block_at.ensures c.get.ensures c.in-Some.is in
-    not_standing c.args.arena.now.state c.args.self.now c.args.name (sym is ∙ c.if-not-is_held_place.true)
+returns-then-not-is_held_place-clause-answer g c = grind (arith, nat_tests, not_standing)
 
 pub returns-then-not-is_held_place-clause-left : goal.returns-then-not-is_held_place-clause-left
-returns-then-not-is_held_place-clause-left g c = λ left.
-    let is = has c.args.arena.now.state c.args.self.now c.args.name c.is_held_place.ensures c.block_at.ensures c.get.ensures c.in-Some.is in
-    not_both (is_left c.args.arena.now.state c.args.self.now c.args.name) left (sym is ∙ c.if-not-is_held_place.true)
+returns-then-not-is_held_place-clause-left g c = grind (arith, nat_tests, not_both)
 
 pub returns-clause-answer : goal.returns-clause-answer
-returns-clause-answer g c =
-    let is = has c.args.arena.now.state c.args.self.now c.args.name c.is_held_place.ensures c.block_at.ensures c.get.ensures c.in-Some.is in
-    standing c.args.arena.now.state c.args.self.now c.args.name c.in-Some.place (sym c.get.ensures ∙ c.in-Some.is)
-    (sym is ∙ c.if-not-is_held_place.false)
+returns-clause-answer g c = grind (arith, nat_tests, standing)
 
 pub returns-clause-ended : goal.returns-clause-ended
-returns-clause-ended g c = λ gone.
-    let is = has c.args.arena.now.state c.args.self.now c.args.name c.is_held_place.ensures c.block_at.ensures c.get.ensures c.in-Some.is in
-    not_both (is_left c.args.arena.now.state c.args.self.now c.args.name) (sym is ∙ c.if-not-is_held_place.false) gone
+returns-clause-ended g c = grind (arith, nat_tests, not_both)

@@ -1,13 +1,10 @@
-use Rattle.std.proofs.Common.{◌∙◌, arith, length}
+use Rattle.std.proofs.lemmas.Bool.Decides.{nat_tests}
+use Rattle.std.proofs.Common.{arith, length}
 use Rattle.arena_chunks.proofs.RunLemmas.FirstNames.{get_first, get_other, remove_first, remove_other, none_removed}
 use Rattle.arena_chunks.proofs.runs.names.Names.remove.Goals as goal
 
 pub returns-then-at-len : goal.returns-then-at-len
-returns-then-at-len c = rw (← c.self.view_is) (record {
-  place = c.index-held.ensures
-      ∙ get_first c.self.inside.first.items c.self.inside.others c.args.name c.index-held.result.now c.self.invariant.1 (omega arith);
-  rest = remove_first c.self.inside.first.items c.self.inside.others c.args.name c.self.invariant.1 (omega arith);
-})
+returns-then-at-len c = grind (arith, nat_tests, get_first, remove_first)
 
 pub invariant_of-self-2 : goal.invariant_of-self-2
 invariant_of-self-2 c = (
@@ -17,7 +14,4 @@ invariant_of-self-2 c = (
 )
 
 pub returns : goal.returns
-returns c = rw (← c.self.view_is) (record {
-  place = c.remove.ensures.place ∙ get_other c.self.inside.first.items c.self.inside.others c.args.name (omega arith);
-  rest = rw c.remove.ensures.rest (remove_other c.self.inside.first.items c.self.inside.others c.args.name (omega arith));
-})
+returns c = grind (arith, nat_tests, get_other, remove_other)
