@@ -17,8 +17,9 @@ use Rattle.arena_items.specs.Placing.{PlacesArray}
 use Rattle.arena_items.specs.Values.{IsBoxIn, box_value}
 use Rattle.arena_items.specs.declared.item.Item.{Ghosts}
 use Rattle.arena_items.specs.declared.boxes.Box.{Box}
-pub use Rattle.arena_items.proofs.HeldLemmas.{placed_held, written_held}
-pub use Rattle.arena_items.proofs.ArrayLemmas.{array_layout, array_held, Yields-push}
+use Rattle.arena_items.proofs.ArrayLemmas.{array_layout}
+pub use Rattle.arena_items.proofs.PlacingLemmas.{row_is_layout, placed_held, written_held}
+pub use Rattle.arena_items.proofs.ArrayLemmas.{Yields-push}
 pub use Rattle.arena_items.proofs.ElementLemmas.{
   rows_before,
   length-elements,
@@ -26,40 +27,38 @@ pub use Rattle.arena_items.proofs.ElementLemmas.{
   elements-get,
   elements-set,
   elements-same,
-  elements-append,
-  elements-push,
   elements-all,
-}
-pub use Rattle.arena_items.proofs.RowLemmas.{
   elements-cut,
   elements-drop,
   elements-front,
   elements-over,
-  moved_values,
-  copied_values,
   drop_item,
 }
 pub use Rattle.arena_items.proofs.RoomLemmas.{
   zero_or_more,
-  row_is_layout,
   front_readable,
-  fronts_kept,
   values_kept,
   taken_held,
   taken_frame,
   taken_front,
-  refused_same,
-  exhausted_same,
   same_then,
   wrote_same,
   room_then,
   room_refused,
-  grown_as,
   refused_as,
+  refusal_leaves,
+  whole_refusal,
 }
-pub use Rattle.arena_items.proofs.CostLemmas.{taken_brings, taken_refused, stays_brings, room_brings, room_refused_as}
-pub use Rattle.arena_items.proofs.CostRules.{costs_nothing, room_costs, costs_weaken, costs_ok, costs_then}
-pub use Rattle.arena_items.proofs.AddressLemmas.{new_address, no_dummy}
+pub use Rattle.arena_items.proofs.CostLemmas.{
+  taken_refused,
+  room_brings,
+  room_refused_as,
+  room_costs,
+  costs_nothing,
+  costs_weaken,
+  costs_ok,
+  costs_then,
+}
 pub use Rattle.arena_items.proofs.FootprintLemmas.{stays_readable, stays_agree, stays_apart}
 
 -- ---- Sizes
@@ -69,9 +68,7 @@ pub option_at_most : (size align : ℕ) → IsItemLayout size align → option_s
 unfolding option_size
 option_at_most size align h =
     let a = IsAlign-bounds align h.is_align in
-    let one = up-is 1 align h.is_align in
-    let all = up-is (up 1 align + size) align h.is_align in
-    omega (arith, a.0, a.1, one.below, all.below)
+    omega (arith, a.0, a.1, (up-is 1 align h.is_align).below, (up-is (up 1 align + size) align h.is_align).below)
 
 -- A pair takes at most 32 bytes more than its parts.
 pub pair_at_most : (size align size' align' : ℕ) → IsItemLayout size align → IsItemLayout size' align'
@@ -80,11 +77,10 @@ unfolding pair_size second_at
 pair_at_most size align size' align' h k =
     let a = IsAlign-bounds align h.is_align in
     let b = IsAlign-bounds align' k.is_align in
-    let at = up-is size align' k.is_align in
     let greater = (pair_layout size align size' align' h k).is_align in
     let c = IsAlign-bounds (max align align') greater in
     let all = up-is (second_at size align' + size') (max align align') greater in
-    omega (arith, a.1, b.1, c.1, at.below, all.below)
+    omega (arith, a.1, b.1, c.1, (up-is size align' k.is_align).below, all.below)
 
 -- ---- Boxes in calls on other blocks
 
@@ -92,11 +88,7 @@ module _ {T : Type 0} (item : Ghosts T) (old new : Memory) (before after : List 
     (frame : Frame old new before after) (held : IsBoxIn item old b) (apart : IsApart b.block.addr b.block.size before) where
   -- One whose block is apart is held,
   pub box_held : IsBoxIn item new b
-  box_held = record {
-    readable = (frame_keeps old new before after b.block frame held.readable apart).readable;
-    of_size = held.of_size;
-    of_align = held.of_align;
-  }
+  box_held = grind (arith, held, frame_keeps old new before after b.block frame held.readable apart)
 
   -- has the same value,
   pub box_same : box_value item new b ≡ box_value item old b
@@ -112,9 +104,7 @@ module _ {T : Type 0} (item : Ghosts T) (old new : Memory) (before after : List 
 pub array_fits : (old new : View) (size align n : ℕ) (b : Block) → IsItemLayout size align
     → PlacesArray old new size align n (Placed b) → n * size < 2 ^ 63
 array_fits old new size align n b h array =
-    let is = array_layout old new size align n b array in
-    let above = (up-is (n * size) align h.is_align).above in
-    grind (arith, nat_tests)
+    grind (arith, nat_tests, array_layout old new size align n b array, (up-is (n * size) align h.is_align).above)
 
 -- A closure that gives the same at each index, and changes no capture, gives copies.
 pub fills_same : {S A : Type 0} (R : S → ℕ → A → S → Type 0) (s : S) (v : A)

@@ -1,23 +1,18 @@
 -- Blocks of collections that grow: the one call of the arena, what it leaves, and calls that write afterwards.
-use Rattle.std.proofs.Common.{◌≡◌, ℕ, Result, zero, suc, ◌-◌, ◌*◌, ◌^◌, ◌<◌, ◌≤◌, ◌⊎◌, inl, inr, ap, sym, ◌∙◌, List, [], ◌∷◌, Ok, Err, refl, take, arith, true, IsTrue}
-use Rattle.std.specs.Prelude.{nat_le, min, OnErr}
-use Rattle.std.proofs.Math.Nat.{mul-le-mul_left}
+use Rattle.std.proofs.Common.{◌≡◌, ℕ, Result, zero, suc, ◌*◌, ◌<◌, ◌≤◌, ◌⊎◌, inl, inr, ap, sym, subst, ◌∙◌, List, [], ◌∷◌, Ok, Err, refl, take, arith, IsTrue}
+use Rattle.std.specs.Prelude.{min, OnErr}
 use Rattle.std.proofs.lemmas.Bool.{eq-eqb, or_left}
-use Rattle.std.proofs.lemmas.Bool.Decides.{nat_tests}
 use Rattle.arena_rules.specs.State.{State}
-use Rattle.arena_rules.specs.Rounding.{up, is_layout}
 use Rattle.arena_chunks.specs.Memory.{Memory, image, bytes_from, is_readable}
 use Rattle.arena_chunks.specs.Source.{View}
-use Rattle.arena_chunks.specs.Answers.{Answer, answer_by, answer_of}
-use Rattle.arena_chunks.specs.Answers.Answer.{Placed, Refused, Exhausted}
-use Rattle.arena_chunks.specs.BlockCalls.{WritesBlock}
+use Rattle.arena_chunks.specs.Answers.{Answer, answer_by}
+use Rattle.arena_chunks.specs.Answers.Answer.{Placed}
+use Rattle.arena_chunks.specs.BlockCalls.{PlacesBlock, WritesBlock}
 use Rattle.arena_chunks.specs.Frame.{Frame}
 use Rattle.arena_store.specs.declared.block.Block.{Block}
 use Rattle.arena_store.specs.declared.block.ArenaErr.{ArenaErr}
 use Rattle.arena_store.specs.declared.block.ArenaErr.TheVariants.{AllocErr as NoPlace, OutOfMemory as NoTable}
 use Rattle.arena_chunks.proofs.Layers.{empty_before, take_bytes, in_use}
-use Rattle.arena_items.specs.Layout.{IsItemLayout}
-use Rattle.arena_items.specs.LayoutLaws.{IsAlign-bounds, up-is}
 use Rattle.arena_items.specs.Values.{bytes_of, elements, IsHeld}
 use Rattle.arena_items.specs.Placing.{Answers}
 use Rattle.arena_items.specs.Room.{TakesRoom, MakesRoom, SamePlaces, RoomAnswer, growth_answer, growth_error}
@@ -27,8 +22,7 @@ use Rattle.arena_items.specs.declared.room.Growth.{Growth}
 use Rattle.arena_items.specs.declared.room.Growth.TheVariants.{Stays, GrowsTo, Overflows}
 use Rattle.arena_items.specs.declared.room.AllocError.{AllocError}
 use Rattle.arena_items.specs.declared.room.AllocError.TheVariants.{AllocErr, CapacityOverflow, OutOfMemory}
-use Rattle.arena_items.proofs.PlacingLemmas.{align_is_power}
-use Rattle.arena_items.proofs.HeldLemmas.{placed_held}
+use Rattle.arena_items.proofs.PlacingLemmas.{placed_held}
 use Rattle.arena_items.proofs.ElementLemmas.{elements-same}
 
 -- a number is 0 or more
@@ -36,16 +30,7 @@ pub zero_or_more : (n : ℕ) → (n ≡ 0) ⊎ (0 < n)
 zero_or_more zero = inl refl
 zero_or_more (suc n) = inr (omega arith)
 
--- ---- Layouts and blocks
-
--- n values in a row have a layout.
-pub row_is_layout : (n size align : ℕ) → IsItemLayout size align → n < 2 ^ 32 → size ≤ 2 ^ 24 → IsTrue (is_layout (n * size) align)
-row_is_layout n size align h few small =
-    let at_most : n * size ≤ n * 2 ^ 24 = mul-le-mul_left n small in
-    let near = up-is (n * size) align h.is_align in
-    let bounds = IsAlign-bounds align h.is_align in
-    let fits : nat_le (up (n * size) align) (2 ^ 63 - 1) ≡ true = grind (arith, nat_tests, near.below, bounds.1, at_most) in
-    rw (align_is_power align h.is_align, fits) refl
+-- ---- Blocks
 
 -- A front of a readable block is readable.
 pub front_readable : (state : State) (b : Block) (n : ℕ) → IsTrue (is_readable state b) → n ≤ b.size
@@ -88,9 +73,7 @@ module _ (old new : View) (b c : Block) (cap size align : ℕ) (takes : TakesRoo
   pub taken_held : IsHeld size align new.memory.state c
   taken_held = elim (zero_or_more cap) [
     | inl none ↦ placed_held old new size align c (takes.placed none)
-    | inr some ↦ (
-        let layout = (takes.grown some).1.outcome.of_layout in
-        record { readable = layout.readable; of_size = layout.of_size; of_align = layout.of_align })
+    | inr some ↦ grind (arith, (takes.grown some).1.outcome.of_layout)
   ]
 
   -- All but the collection's block is as it was.
@@ -112,21 +95,38 @@ module _ (old new : View) (b c : Block) (cap size align : ℕ) (takes : TakesRoo
         (rw least at grown.bytes))
   ]
 
--- A refusal leaves the arena as it was.
-pub refused_same : (old new : View) (b : Block) (cap size align k : ℕ) → TakesRoom old new b cap size align (Refused k)
-    → new.memory ≡ old.memory
-refused_same old new b cap size align k takes = elim (zero_or_more cap) [
+-- A refusal leaves the memory as it was,
+pub room_leaves : {X : Type 0} (f : X → Block) (result : Result X AllocError) (old new : View) (b : Block) (cap size align : ℕ)
+    → RoomAnswer f result (TakesRoom old new b cap size align) → OnErr result (new.memory ≡ old.memory)
+room_leaves f (Ok x) old new b cap size align takes = tt
+room_leaves f (Err (AllocErr k)) old new b cap size align takes = elim (zero_or_more cap) [
   | inl none ↦ (takes.placed none).1.outcome.1.memory
   | inr some ↦ (takes.grown some).1.outcome.1.memory
 ]
-
--- So does running out of memory.
-pub exhausted_same : (old new : View) (b : Block) (cap size align : ℕ) → TakesRoom old new b cap size align Exhausted
-    → new.memory ≡ old.memory
-exhausted_same old new b cap size align takes = elim (zero_or_more cap) [
+room_leaves f (Err OutOfMemory) old new b cap size align takes = elim (zero_or_more cap) [
   | inl none ↦ ap (λ v. v.memory) (takes.placed none).1.outcome.same
   | inr some ↦ ap (λ v. v.memory) (takes.grown some).1.outcome.1.same
 ]
+room_leaves f (Err CapacityOverflow) old new b cap size align takes = absurd takes
+
+-- also that of a new block.
+pub refusal_leaves : {X : Type 0} (f : X → Block) (e : AllocError) (size align : ℕ) (old new : View)
+    → RoomAnswer f (Err e) (PlacesBlock old new size align) → new.memory ≡ old.memory
+refusal_leaves f (AllocErr k) size align old new places = places.1.outcome.1.memory
+refusal_leaves f OutOfMemory size align old new places = ap (λ v. v.memory) places.1.outcome.same
+refusal_leaves f CapacityOverflow size align old new places = absurd places
+
+-- two views of the same memory and the same source are equal
+same_view : (a b : View) → a.memory ≡ b.memory → a.source ≡ b.source → a ≡ b
+same_view a b m s = λ i. record { memory = m i; source = s i }
+
+-- A refusal that leaves the memory is the whole call: nothing was written after it.
+pub whole_refusal : {X : Type 0} (f : X → Block) (e : AllocError) (size align : ℕ) (old between new : View)
+    → RoomAnswer f (Err e) (PlacesBlock old between size align) → SamePlaces between new → new.memory ≡ old.memory
+    → RoomAnswer f (Err e) (PlacesBlock old new size align)
+whole_refusal f e size align old between new places same kept =
+    subst (λ v. RoomAnswer f (Err e) (PlacesBlock old v size align))
+    (same_view between new (refusal_leaves f e size align old between places ∙ sym kept) (sym same.source)) places
 
 -- ---- Answers
 
@@ -144,21 +144,10 @@ refused_as f g (NotPlaced refused) P holds = holds
 refused_as f g NoMemory P holds = holds
 refused_as f g (TooFew taken) P holds = absurd holds
 
--- If no block was taken the arena is as it was.
-pub none_taken : (old new : View) (b : Block) (cap size align : ℕ) (answer : Result Block ArenaErr)
-    → TakesRoom old new b cap size align (answer_of answer) → OnErr (growth_answer answer) (new.memory ≡ old.memory)
-none_taken old new b cap size align (Ok c) takes = tt
-none_taken old new b cap size align (Err (NoPlace refused)) takes = refused_same old new b cap size align refused takes
-none_taken old new b cap size align (Err NoTable) takes = exhausted_same old new b cap size align takes
-
 -- ---- Places
 
 pub same_then : (old mid new : View) → SamePlaces old mid → SamePlaces mid new → SamePlaces old new
-same_then old mid new one two = record {
-  state = two.state ∙ one.state;
-  statistics = two.statistics ∙ one.statistics;
-  source = two.source ∙ one.source;
-}
+same_then old mid new one two = grind (arith, one, two)
 
 -- A write moves no cursor.
 pub wrote_same : (old new : View) (b : Block) (at : ℕ) (list : List ℕ) → WritesBlock old.memory new.memory b at list

@@ -25,7 +25,7 @@ pub struct Box<T> {
 /// The Rust crate's name for it.
 pub type ArenaBox<T> = Box<T>;
 
-#[tactic(auto, using(arena_chunks::proofs::Layers::layer_laws, crate::proofs::HeldLemmas::held_laws))]
+#[tactic(auto, using(arena_chunks::proofs::Layers::layer_laws, crate::proofs::PlacingLemmas::held_laws))]
 impl<T: Item> Box<T> {
     /// Places a value.
     ///

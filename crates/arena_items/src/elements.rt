@@ -74,7 +74,7 @@ fn known_all<T: Item>(values: &[T])
 }
 
 // Writes a value over a block of its layout.
-#[tactic(auto, using(arena_chunks::proofs::Layers::layer_laws, crate::proofs::HeldLemmas::held_laws))]
+#[tactic(auto, using(arena_chunks::proofs::Layers::layer_laws, crate::proofs::PlacingLemmas::held_laws))]
 #[inline]
 pub(crate) fn write_whole<T: Item, C: ChunkSource>(a: &mut Allocator<C>, block: Block, value: T)
     requires small { T.SIZE ≤ 2 ^ 24 }

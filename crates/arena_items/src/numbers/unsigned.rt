@@ -39,7 +39,7 @@ impl Item for u8 {
         out[0] = self;
     }
 
-    #[tactic(auto, using(crate::proofs::ByteLemmas::flat_map_bytes))]
+    #[tactic(auto, using(crate::proofs::PlacingLemmas::flat_map_bytes))]
     fn encode_all(values: &[Self], out: &mut [u8]) {
         out.copy_from_slice(values);
     }

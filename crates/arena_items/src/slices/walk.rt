@@ -45,7 +45,7 @@ impl<T: Item> BoxSlice<T> {
     }
 }
 
-#[tactic(auto, using(crate::proofs::RowLemmas::walk_laws))]
+#[tactic(auto, using(crate::proofs::ElementLemmas::walk_laws))]
 impl<'a, T: Item, C: ChunkSource> Iterator for SliceIter<'a, T, C> {
     type Item = T;
 
@@ -72,7 +72,7 @@ impl<'a, T: Item, C: ChunkSource> Iterator for SliceIter<'a, T, C> {
     }
 }
 
-#[tactic(auto, using(crate::proofs::RowLemmas::walk_laws))]
+#[tactic(auto, using(crate::proofs::ElementLemmas::walk_laws))]
 impl<'a, T: Item, C: ChunkSource> ExactSizeIterator for SliceIter<'a, T, C> {
     fn len(&self) -> usize {
         (self.slice.length - self.at) as usize

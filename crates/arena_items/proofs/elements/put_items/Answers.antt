@@ -1,5 +1,3 @@
-use Rattle.std.proofs.Common.{◌+◌, ◌*◌, ◌≤◌, arith, length}
-use Rattle.std.proofs.Math.Nat.{add-mul}
 use Rattle.arena_chunks.proofs.Layers.{edits_to}
 use Rattle.arena_items.proofs.ElementLemmas.{put_append}
 use Rattle.arena_items.proofs.elements.put_items.Goals as goal
@@ -8,8 +6,6 @@ pub returns-clause-push : goal.returns-clause-push
 returns-clause-push g c =
     let item = g.met.T.Item in
     let writes = edits_to _ _ c.args.block _ _ _ (rw c.SIZE-2.ensures at c.write_with.ensures.edits) in
-    let room : c.args.i * g.T.Item.SIZE + length c.args.values.now * g.T.Item.SIZE ≤ c.args.block.size =
-    omega (arith, c.requires.range, add-mul c.args.i (length c.args.values.now) g.T.Item.SIZE) in
-    put_append _ _ c.args.block g.T.Item.SIZE c.args.i g.T.Item.encoded g.T.Item.decoded g.T.Item.is_value
+    put_append g.T.Item.SIZE g.T.Item.decoded _ _ c.args.block c.args.i g.T.Item.encoded g.T.Item.is_value
     (λ v is. item.encoded_length v is c.requires.small) (λ v is. item.round_trip v is c.requires.small)
-    c.args.values.now c.known_all.ensures writes room
+    c.args.values.now c.known_all.ensures writes c.requires.range

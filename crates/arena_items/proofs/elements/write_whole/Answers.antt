@@ -1,6 +1,6 @@
 use Rattle.std.proofs.Common.{sym, ◌∙◌}
 use Rattle.arena_chunks.proofs.Layers.{edits_to}
-use Rattle.arena_items.proofs.HeldLemmas.{wrote_value}
+use Rattle.arena_items.proofs.PlacingLemmas.{wrote_value}
 use Rattle.arena_items.proofs.elements.write_whole.Goals as goal
 
 pub returns-clause-value : goal.returns-clause-value

@@ -1,5 +1,6 @@
-use Rattle.arena_items.proofs.FootprintLemmas.{back_readable, back_agree, all_apart_none}
 use Rattle.std.proofs.Common.{sym}
+use Rattle.arena_chunks.proofs.Layers.{all_from_none}
+use Rattle.arena_items.proofs.FootprintLemmas.{back_readable, back_agree}
 use Rattle.arena_items.proofs.laws.back_law.Goals as goal
 
 pub returns-clause-readable : goal.returns-clause-readable
@@ -11,7 +12,7 @@ returns-clause-readable g c = λ old new v back held readable.
       held = kind.held_again old new v held agree readable;
       footprint = sym same;
       means = sym (kind.same_meaning old new v agree);
-      apart = all_apart_none (g.V.InArena.footprint new v);
+      apart = all_from_none (g.V.InArena.footprint new v);
     }
 
 pub returns-clause-marked : goal.returns-clause-marked

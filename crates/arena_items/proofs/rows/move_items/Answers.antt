@@ -1,4 +1,4 @@
-use Rattle.arena_items.proofs.RowLemmas.{moved_values}
+use Rattle.arena_items.proofs.ElementLemmas.{moved_values}
 use Rattle.arena_items.proofs.rows.move_items.Goals as goal
 
 pub returns-clause-values : goal.returns-clause-values
