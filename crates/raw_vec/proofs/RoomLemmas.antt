@@ -68,24 +68,19 @@ module _ {T : Type 0} (item : Ghosts T) (old new : View) (empty : RawVec T) (roo
   made_storage raw made grown enough =
       let sum : 0 + room ≡ room = omega arith in
       let no_bytes : empty.block.size ≡ 0 = ap (λ b. b.size) block in
-      record {
-        made = rw (sum, cap, block) at made;
-        held = grown.held;
-        list_is = elements-empty item.SIZE item.decoded raw.len (bytes_of new.memory raw.block) (grown.len ∙ none);
-        len = grown.len ∙ none;
-        cap = rw (sum, cap) at grown.cap;
-        enough = rw sum at enough;
-        frame = (empty_before old.memory new.memory [] [] (raw.block ∷ []) empty.block no_bytes).0 grown.frame;
-        err = tt;
-      }
+      grind (
+        arith,
+        rw (sum, cap, block) at made,
+        elements-empty item.SIZE item.decoded raw.len (bytes_of new.memory raw.block) (grown.len ∙ none),
+        rw (sum, cap) at grown.cap,
+        (empty_before old.memory new.memory [] [] (raw.block ∷ []) empty.block no_bytes).0 grown.frame,
+      )
 
   -- There was no room.
   pub no_storage : (e : AllocError)
       → MakesRoom {X = RawVec T} item.SIZE item.ALIGN old new empty.block empty.cap (growth_by true item.SIZE empty.cap (0 + room))
       (λ r. r.block) (Err e)
       → new.memory ≡ old.memory → Makes {X = RawVec T} item (λ r. r) old new room [] (Err e)
-  no_storage e made same =
-      let sum : 0 + room ≡ room = omega arith in
-      record { made = rw (sum, cap, block) at made; held = tt; list_is = tt; len = tt; cap = tt; enough = tt; frame = tt; err = same }
+  no_storage e made same = let sum : 0 + room ≡ room = omega arith in grind (arith, rw (sum, cap, block) at made)
 
 pub ruleset room_laws = (frame_reflexive, mul-le-mul_right, made_storage, no_storage)

@@ -1,11 +1,11 @@
 -- Lists that are walked from both ends.
-use Rattle.std.proofs.Common.{◌≡◌, ℕ, suc, zero, ◌+◌, ◌-◌, ◌*◌, ◌<◌, ◌≤◌, List, [], ◌∷◌, ◌++◌, length, take, drop, sym, ap, ◌∙◌, arith, Some, None, add-one}
+use Rattle.std.proofs.Common.{◌≡◌, ℕ, ◌+◌, ◌-◌, ◌*◌, ◌<◌, ◌≤◌, List, [], ◌∷◌, ◌++◌, length, take, drop, sym, ap, ◌∙◌, arith, Some, None}
 use Rattle.std.proofs.lemmas.Grind.{common_steps}
 use Rattle.std.proofs.Math.Nat.{add-mul}
 use Rattle.std.specs.Prelude.{slice_get, Option}
 use Rattle.std.specs.Iterator.{YieldsFirst}
-use Rattle.std.proofs.lemmas.List.{length-take, length-drop}
-use Rattle.std.proofs.lemmas.Option.{same_Some}
+use Rattle.std.proofs.lemmas.List.{length-take, length-drop, take_more, drop_more}
+use Rattle.std.proofs.lemmas.Option.{slice_get_within, get_or_from_slice_get}
 use Rattle.arena_items.specs.Values.{elements}
 use Rattle.raw_vec.specs.Rows.{window}
 use Rattle.arena_items.proofs.Layers.{length-elements, elements-empty, elements-cut, elements-drop, elements-front}
@@ -22,32 +22,18 @@ pub window-none : {T : Type 0} (xs : List T) (f b : ℕ) → f ≡ b → b ≤ l
 unfolding window
 window-none xs f b e h = grind (arith, common_steps)
 
-first : {T : Type 0} (xs : List T) (f b : ℕ) (x : T) → f < b → slice_get xs f ≡ Some x → drop f (take b xs) ≡ x ∷ drop (suc f) (take b xs)
-first [] f b x h e = cc
-first (y ∷ xs) f zero x h e = absurd (omega arith)
-first (y ∷ xs) zero (suc b) x h e = ap (λ z. z ∷ take b xs) (same_Some y x e)
-first (y ∷ xs) (suc f) (suc b) x h e = first xs f b x (omega arith) e
-
 pub window-first : {T : Type 0} (xs : List T) (f b : ℕ) (x : T) → f < b → slice_get xs f ≡ Some x → window xs f b ≡ x ∷ window xs (f + 1) b
 unfolding window
-window-first xs f b x h e = rw add-one (first xs f b x h e)
-
-last : {T : Type 0} (xs : List T) (f b : ℕ) (x : T) → f ≤ b → slice_get xs b ≡ Some x → drop f (take (suc b) xs)
-    ≡ drop f (take b xs) ++ x ∷ []
-last [] f b x h e = cc
-last (y ∷ xs) zero zero x h e = ap (λ z. z ∷ []) (same_Some y x e)
-last (y ∷ xs) (suc f) zero x h e = absurd (omega arith)
-last (y ∷ xs) zero (suc b) x h e = ap (λ zs. y ∷ zs) (last xs zero b x (omega arith) e)
-last (y ∷ xs) (suc f) (suc b) x h e = last xs f b x (omega arith) e
+window-first xs f b x less got =
+    let within = slice_get_within xs f x got in
+    grind (arith, common_steps, drop_more (take b xs) f x (omega (arith, length-take b xs)), get_or_from_slice_get xs f x x got)
 
 pub window-last : {T : Type 0} (xs : List T) (f b : ℕ) (x : T) → f < b → slice_get xs (b - 1) ≡ Some x → window xs f b
     ≡ window xs f (b - 1) ++ x ∷ []
 unfolding window
-window-last xs f zero x h e = absurd (omega arith)
-window-last xs f (suc b) x h e =
-    let k : suc b - 1 ≡ b = omega arith in
-    let at : slice_get xs b ≡ Some x = rw k at e in
-    rw k (last xs f b x (omega arith) at)
+window-last xs f b x less got =
+    let more = take_more xs (b - 1) x (slice_get_within xs (b - 1) x got) in
+    grind (arith, common_steps, more, get_or_from_slice_get xs (b - 1) x x got)
 
 -- and what a walk gives first.
 pub first_left : {T S : Type 0} (rest : S → List T) (s t : S) (r : Option T) → YieldsFirst rest s r t → slice_get (rest s) 0 ≡ r

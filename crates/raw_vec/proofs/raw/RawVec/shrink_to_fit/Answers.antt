@@ -1,4 +1,4 @@
-use Rattle.std.proofs.Common.{arith, ◌≡◌, ◌*◌, ◌<◌, ◌≤◌, refl, sym, ◌∙◌, [], ◌∷◌}
+use Rattle.std.proofs.Common.{arith, ℕ, ◌≡◌, ◌*◌, ◌≤◌, [], ◌∷◌, refl}
 use Rattle.std.specs.Prelude.{min}
 use Rattle.std.proofs.lemmas.Grind.{common_steps}
 use Rattle.std.proofs.Math.Nat.{mul-le-mul_right}
@@ -9,27 +9,17 @@ use Rattle.arena_items.proofs.Layers.{elements-empty, values_kept}
 use Rattle.raw_vec.proofs.raw.RawVec.shrink_to_fit.Goals as goal
 
 pub returns-then-amount-eq0 : goal.returns-then-amount-eq0
-returns-then-amount-eq0 g c = record {
-  no_bytes = λ none. absurd (omega (arith, c.SIZE.ensures));
-  stays = λ all. absurd (omega arith);
-  given = λ sized none some. (c.deallocate.ensures.given, c.deallocate.ensures.source);
-  gone = λ sized none some. c.new_in.ensures.block;
-  shrunk = λ sized some less. absurd (omega arith);
-  cap = λ sized. grind (arith, common_steps);
-  none = λ sized none. c.new_in.ensures.len;
-  some = λ some. absurd (omega arith);
-  held = c.new_in.ensures.held _;
-  values = λ n within.
-      elements-empty g.T.Item.SIZE g.T.Item.decoded n _ (omega arith)
-      ∙ sym (elements-empty g.T.Item.SIZE g.T.Item.decoded n _ (omega arith));
-  frame = (empty_after _ _ (c.args.self.now.block ∷ []) [] [] c.new_in.result.block (rw c.new_in.ensures.block refl)).1
-      (returned_plain _ _ _ c.deallocate.ensures.given c.known.ensures.state);
-}
+returns-then-amount-eq0 g c = grind (
+  arith,
+  common_steps,
+  elements-empty g.T.Item.SIZE g.T.Item.decoded,
+  c.new_in.ensures.held c.deallocate.new.self.memory,
+  (empty_after _ _ (c.args.self.now.block ∷ []) [] [] c.new_in.result.block (rw c.new_in.ensures.block refl)).1
+      (returned_plain _ _ _ c.deallocate.ensures.given c.known.ensures.state),
+)
 
 pub returns-in-Ok : goal.returns-in-Ok
 returns-in-Ok g c =
-    let some : 0 < c.args.amount = grind (arith, common_steps) in
-    let less : c.args.amount < c.args.self.now.cap = omega arith in
     let size = g.T.Item.SIZE in
     let shrunk : ShrinksBlock c.args.a.now c.shrink.new.self c.args.self.now.block (c.args.amount * size) g.T.Item.ALIGN
     (Placed c.in-Ok.block) =
@@ -38,22 +28,7 @@ returns-in-Ok g c =
     let room : c.args.amount * size ≤ c.args.self.now.block.size =
     omega (arith, c.requires.held.place.of_size, mul-le-mul_right size c.requires.less) in
     let least : min c.args.self.now.block.size (c.args.amount * size) ≡ c.args.amount * size = omega (arith, room) in
-    record {
-      no_bytes = λ none. absurd (omega (arith, c.SIZE.ensures));
-      stays = λ all. absurd (omega arith);
-      given = λ sized none some. absurd (omega arith);
-      gone = λ sized none some. absurd (omega arith);
-      shrunk = λ sized some less. shrunk;
-      cap = λ sized. refl;
-      none = λ sized none. absurd (omega arith);
-      some = λ some. refl;
-      held = record {
-        place = record { readable = is.of_layout.readable; of_size = is.of_layout.of_size; of_align = is.of_layout.of_align };
-        within = c.requires.room some;
-        no_bytes = λ none. absurd (omega (arith, c.SIZE.ensures));
-      };
-      values = λ n within. values_kept g.T.Item.decoded c.args.a.now.memory c.shrink.new.self.memory c.args.self.now.block c.in-Ok.block
-          size n
-          (c.args.amount * size) (mul-le-mul_right size within) room (omega (arith, is.of_layout.of_size)) (rw least at is.bytes);
-      frame = is.frame;
-    }
+    let values = λ (n : ℕ) (within : n ≤ c.args.amount). values_kept g.T.Item.decoded c.args.a.now.memory c.shrink.new.self.memory
+    c.args.self.now.block c.in-Ok.block size n (c.args.amount * size) (mul-le-mul_right size within) room
+    (omega (arith, is.of_layout.of_size)) (rw least at is.bytes) in
+    grind (arith, common_steps, shrunk, is.of_layout, is.frame, values)
