@@ -1,6 +1,6 @@
 -- Many values at once: copies, cuts, and vectors that other calls leave alone.
-use Rattle.std.proofs.Common.{◌≡◌, ℕ, ◌+◌, ◌-◌, ◌^◌, ◌<◌, ◌≤◌, List, ◌++◌, length, take, drop, replicate, refl, sym, ap, ◌∙◌, arith, Ok, inl, inr, append-nil}
-use Rattle.std.proofs.lemmas.List.{take_all}
+use Rattle.std.proofs.Common.{◌≡◌, ℕ, ◌+◌, ◌-◌, ◌^◌, ◌<◌, ◌≤◌, List, ◌++◌, take, drop, replicate, ap, ◌∙◌, arith, Ok, inl, inr, append-nil}
+use Rattle.std.proofs.lemmas.Grind.{common_steps}
 use Rattle.std.proofs.lemmas.Bool.{cases_lt}
 use Rattle.std.proofs.lemmas.Bool.Decides.{nat_tests}
 use Rattle.std.specs.Prelude.{min}
@@ -28,17 +28,7 @@ pub now_cut : {T : Type 0} (item : Ghosts T) (old new : Memory) (after : List Bl
 now_cut item old new after v n held stays fewer =
     let list : elements item.SIZE item.decoded n (bytes_of new v.raw.block) ≡ take n (vec_list item old v) =
     ap (elements item.SIZE item.decoded n) stays.bytes ∙ elements-cut item.SIZE item.decoded n v.raw.len (bytes_of old v.raw.block) fewer in
-    record {
-      held = record {
-        place = record { readable = stays.readable; of_size = held.place.of_size; of_align = held.place.of_align };
-        within = omega (arith, held.within);
-        no_bytes = held.no_bytes;
-      };
-      list_is = list;
-      len = sym (length-elements item.SIZE item.decoded n (bytes_of new v.raw.block)) ∙ ap length list;
-      block = refl;
-      cap = refl;
-    }
+    grind (arith, list, stays.readable, length-elements item.SIZE item.decoded n (bytes_of new v.raw.block))
 
 -- If there is room nothing grows.
 pub no_growth : (size cap required wanted : ℕ) → required ≤ cap → growth_to size cap required wanted ≡ RoomStays
@@ -54,15 +44,7 @@ cut_grows item view v n value held fewer =
     let cut = shortened item view v n held fewer in
     let none : n - v.raw.len ≡ 0 = omega arith in
     let stays : amortised_growth item.SIZE v.raw.cap n ≡ RoomStays = no_growth item.SIZE v.raw.cap n _ (omega (arith, held.within)) in
-    rw (stays, none, append-nil (take n (vec_list item view.memory v))) (record {
-      made = (refl, cut.places);
-      held = cut.held;
-      list_is = cut.list_is;
-      len = cut.len;
-      cap = refl;
-      err = tt;
-      frame = cut.frame;
-    })
+    rw (stays, none, append-nil (take n (vec_list item view.memory v))) (grind (arith, cut))
 
 -- A value was appended until there are m.
 pub filled : {T : Type 0} (size : ℕ) (dec : List ℕ → T) (list : List T) (k m : ℕ) (value : T) (old new : List ℕ) → k ≤ m
@@ -70,19 +52,14 @@ pub filled : {T : Type 0} (size : ℕ) (dec : List ℕ → T) (list : List T) (k
     → elements size dec m new ≡ take m list ++ replicate (m - k) value
 filled size dec list k m value old new more first put =
     let all : k + (m - k) ≡ m = omega arith in
-    let long : length list ≡ k = ap length (sym first) ∙ length-elements size dec k old in
-    ap (λ p. elements size dec p new) (sym all) ∙ put ∙ ap (λ l. l ++ replicate (m - k) value) (first
-    ∙ sym (take_all m list (omega (arith, long))))
+    grind (arith, common_steps, rw all at put, length-elements size dec k old)
 
 -- The values of another vector were appended.
 pub appended : {T : Type 0} (size : ℕ) (dec : List ℕ → T) (list : List T) (k n : ℕ) (between other old new : List ℕ) → between ≡ other
     → elements size dec k old ≡ list
     → elements size dec (k + n) new ≡ elements size dec k old ++ drop 0 (elements size dec (0 + n) between)
     → elements size dec (k + n) new ≡ list ++ elements size dec n other
-appended size dec list k n between other old new same first put =
-    let sum : 0 + n ≡ n = omega arith in
-    put ∙ ap (λ l. l ++ elements size dec (0 + n) between) first ∙ ap (λ p. list ++ elements size dec p between) sum
-    ∙ ap (λ bs. list ++ elements size dec n bs) same
+appended size dec list k n between other old new same first put = let sum : 0 + n ≡ n = omega arith in rw (sum, same, first) at put
 
 -- The values from an index on were put into new storage.
 pub split : {T : Type 0} (size : ℕ) (dec : List ℕ → T) (at n : ℕ) (between old fresh new : List ℕ) → at ≤ n → between ≡ old
@@ -90,8 +67,7 @@ pub split : {T : Type 0} (size : ℕ) (dec : List ℕ → T) (at n : ℕ) (betwe
     → elements size dec (n - at) new ≡ drop at (elements size dec n old)
 split size dec at n between old fresh new within same put =
     let all : at + (n - at) ≡ n = omega arith in
-    elements-all size dec (n - at) new fresh (drop at (elements size dec (at + (n - at)) between)) put
-    ∙ ap (λ p. drop at (elements size dec p between)) all ∙ ap (λ bs. drop at (elements size dec n bs)) same
+    elements-all size dec (n - at) new fresh (drop at (elements size dec n old)) (rw (all, same) at put)
 
 -- A count that is capped at 2 ^ 64 - 1 grows a vector as the whole count does.
 pub cut_growth : (size cap len n : ℕ) → cap < 2 ^ 32 → amortised_growth size cap (len + min n (2 ^ 64 - 1))

@@ -1,6 +1,6 @@
 -- What amortised growth does to a capacity, and what it costs.
-use Rattle.std.proofs.Common.{◌≡◌, ℕ, ◌+◌, ◌-◌, ◌*◌, ◌^◌, ◌<◌, ◌≤◌, max, refl, sym, arith, inl, inr, true, false, Bool, Ok, Err, List}
-use Rattle.std.specs.Prelude.{Result, IsOkAnd, nat_le, if◌then◌else◌}
+use Rattle.std.proofs.Common.{◌≡◌, ℕ, ◌+◌, ◌-◌, ◌*◌, ◌^◌, ◌<◌, ◌≤◌, max, refl, sym, arith, inl, inr, Ok, Err, List}
+use Rattle.std.specs.Prelude.{Result, IsOkAnd}
 use Rattle.std.proofs.lemmas.Bool.{cases_lt}
 use Rattle.std.proofs.lemmas.Bool.Decides.{nat_tests}
 use Rattle.std.proofs.Math.Nat.{mul-le-mul_left, mul-le-mul_right}
@@ -10,8 +10,8 @@ use Rattle.arena_store.specs.declared.block.Block.{Block}
 use Rattle.arena_items.specs.declared.item.Item.{Ghosts}
 use Rattle.arena_items.specs.Room.{capacity_after, MakesRoom, RoomAnswer}
 use Rattle.arena_items.specs.declared.room.AllocError.{AllocError}
-use Rattle.arena_items.specs.declared.room.AllocError.TheVariants.{AllocErr, CapacityOverflow, OutOfMemory}
-use Rattle.arena_items.specs.declared.room.Growth.TheVariants.{Stays, GrowsTo, Overflows}
+use Rattle.arena_items.specs.declared.room.AllocError.TheVariants.{CapacityOverflow}
+use Rattle.arena_items.specs.declared.room.Growth.TheVariants.{Stays, GrowsTo}
 use Rattle.arena_vec.specs.Changes.{Grows}
 use Rattle.arena_vec.specs.Credit.{asked_by, credit_of}
 use Rattle.raw_vec.specs.Growth.{fits, amortised, growth_to, amortised_growth}
@@ -34,19 +34,10 @@ twice size cap required m is few bytes = rw (sym is) (grind (arith, nat_tests))
 
 -- ---- The capacity
 
--- It is no less, whatever the rule's tests return.
-no_less : (b c d : Bool) (cap required : ℕ) → (b ≡ false → cap < required)
-    → cap ≤ capacity_after (if b then Stays else (if c then GrowsTo (if d then max (2 * cap) required else required) else Overflows)) cap
-no_less true c d cap required less = omega arith
-no_less false true true cap required less = omega (arith, less refl)
-no_less false true false cap required less = omega (arith, less refl)
-no_less false false d cap required less = omega arith
-
+-- It is no less.
 pub keeps : (size cap required : ℕ) → cap ≤ capacity_after (amortised_growth size cap required) cap
 unfolding growth_to amortised
-keeps size cap required =
-    no_less (nat_le required cap) (fits size required) (fits size (max (2 * cap) required)) cap required
-    (λ more. let less : cap < required = grind (arith, nat_tests) in less)
+keeps size cap required = grind (arith, nat_tests)
 
 pub vec_keeps : {X T : Type 0} (item : Ghosts T) (old new : View) (v w : Vec T) (required : ℕ) (list : List T)
     (result : Result X AllocError) → Grows item old new v (amortised_growth item.SIZE v.raw.cap required) list w result
@@ -93,10 +84,8 @@ asks size cap len n within some few = elim (cases_lt cap (len + n)) [
 module _ {X : Type 0} (f : X → Block) where
   -- An arena never reports an overflow,
   no_overflow : (result : Result X AllocError) (P : Answer → Type 0) → RoomAnswer f result P → ¬ (result ≡ Err CapacityOverflow)
-  no_overflow (Ok x) P a is = cc
-  no_overflow (Err (AllocErr refused)) P a is = cc
-  no_overflow (Err OutOfMemory) P a is = cc
   no_overflow (Err CapacityOverflow) P a is = absurd a
+  no_overflow result P a is = cc
 
   none_refused : (result : Result X AllocError) (P : X → Type 0) → IsOkAnd result P → ¬ (result ≡ Err CapacityOverflow)
   none_refused (Ok x) P a is = cc

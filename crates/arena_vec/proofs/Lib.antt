@@ -5,11 +5,9 @@ mod BulkLemmas
 mod ExtendLemmas
 mod FilterLemmas
 mod TurnLemmas
-mod Walks
 mod SiftLemmas
 mod DedupLemmas
 mod CompareLemmas
-mod FedLemmas
 mod DebugLemmas
 mod SpliceLemmas
 mod SpliceEnds

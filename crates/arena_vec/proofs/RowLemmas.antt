@@ -1,7 +1,7 @@
 -- Lists of which a part moves.
-use Rattle.std.proofs.Common.{◌≡◌, ℕ, suc, zero, ◌+◌, ◌-◌, ◌<◌, ◌≤◌, List, [], ◌∷◌, ◌++◌, length, take, drop, refl, sym, ap, ◌∙◌, arith, set, append-nil, add-one}
+use Rattle.std.proofs.Common.{◌≡◌, ℕ, suc, zero, ◌+◌, ◌-◌, ◌<◌, ◌≤◌, List, [], ◌∷◌, ◌++◌, length, take, drop, refl, ap, arith, set, append-nil, add-one}
 use Rattle.std.proofs.lemmas.Grind.{common_steps}
-use Rattle.std.proofs.lemmas.List.{drop_all, drop-take}
+use Rattle.std.proofs.lemmas.List.{drop-take, take-take}
 use Rattle.std.specs.List.{insert, remove_range}
 use Rattle.arena_items.specs.Rows.{over}
 
@@ -20,9 +20,7 @@ pub moved_up : {T : Type 0} (xs : List T) (n i : ℕ) (v : T) → length xs ≡ 
     → set (over xs (i + 1) (take (n - i) (drop i xs))) i v ≡ insert (take n xs) i v
 moved_up {T} xs n i v e h =
     let ys : List T = take (n - i) (drop i xs) in
-    let long : length ys ≡ n - i = grind (arith, common_steps) in
-    let none : drop (i + 1 + length ys) xs ≡ [] = drop_all (i + 1 + length ys) xs (omega arith) in
+    let none : drop (i + 1 + length ys) xs ≡ [] = grind (arith, common_steps) in
     let whole : i + (n - i) ≡ n = omega arith in
-    let same : drop i (take n xs) ≡ ys = ap (λ k. drop i (take k xs)) (sym whole) ∙ drop-take i (n - i) xs in
-    let front : take i (take n xs) ≡ take i xs = grind (arith, common_steps) in
-    rw (none, append-nil (take (i + 1) xs ++ ys), add-one, front, same) (set_after xs ys i v (omega arith))
+    let same : drop i (take n xs) ≡ ys = rw whole at (drop-take i (n - i) xs) in
+    rw (none, append-nil (take (i + 1) xs ++ ys), add-one, take-take i n xs h, same) (set_after xs ys i v (omega arith))

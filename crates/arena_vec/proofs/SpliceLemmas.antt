@@ -1,7 +1,7 @@
 -- A range of a vector that an iterator's items are put into, and the steps of a splice.
-use Rattle.std.proofs.Common.{◌≡◌, ℕ, zero, suc, ◌+◌, ◌-◌, ◌*◌, ◌<◌, ◌≤◌, List, [], ◌∷◌, ◌++◌, length, take, drop, refl, sym, ap, subst, ◌∙◌, arith, Bool, true, false, Option, Some, None, Result, Ok, Err, set, add-one, length-append, append_assoc, append-nil}
+use Rattle.std.proofs.Common.{◌≡◌, ℕ, ◌+◌, ◌-◌, ◌*◌, ◌<◌, ◌≤◌, List, [], ◌∷◌, ◌++◌, length, take, drop, refl, sym, ap, subst, ◌∙◌, arith, Bool, true, false, Option, Some, None, Result, Ok, Err, set, length-append, append_assoc, append-nil}
 use Rattle.std.proofs.lemmas.Grind.{common_steps}
-use Rattle.std.proofs.lemmas.List.{length-take, length-drop, drop_all, drop-take, take_all, take_at, drop_at, drop-drop, set-append_right}
+use Rattle.std.proofs.lemmas.List.{drop-take, take_all, take_at, drop_at, drop-drop, drop-set, drop-set-add, take-take, set-append_right}
 use Rattle.std.proofs.Math.Nat.{add-mul, mul-le-mul_right}
 use Rattle.std.proofs.Math.Seq.{take-add}
 use Rattle.std.specs.List.{remove_range, replace_range}
@@ -31,57 +31,38 @@ use Rattle.arena_vec.proofs.BulkLemmas.{now_cut}
 
 -- ---- Lists
 
--- nothing written over others
-over_none : {T : Type 0} (xs : List T) (at : ℕ) → over xs at [] ≡ xs
-over_none xs at = grind (arith, common_steps)
-
--- the first of what is left is replaced
-first_set : {T : Type 0} (xs : List T) (n : ℕ) (x : T) → n < length xs → set (drop n xs) 0 x ≡ x ∷ drop (n + 1) xs
-first_set [] n x h = absurd (omega arith)
-first_set (y ∷ ys) zero x h = refl
-first_set (y ∷ ys) (suc n) x h = rw add-one (rw add-one at (first_set ys n x (omega arith)))
-
 module _ {T : Type 0} (xs ys : List T) (at : ℕ) (within : at + length ys ≤ length xs) where
   front_long : length (take at xs ++ ys) ≡ at + length ys
-  front_long = omega (arith, length-append (take at xs) ys, length-take at xs)
+  front_long = grind (arith, common_steps)
 
   -- one more value after those that were written over others
   over_more : (x : T) → at + length ys < length xs → set (over xs at ys) (at + length ys) x ≡ over xs at (ys ++ x ∷ [])
   over_more x more =
       let n = at + length ys in
       let none : n - n ≡ 0 = omega arith in
+      let first : set (drop n xs) 0 x ≡ x ∷ drop (n + 1) xs = grind (arith, common_steps, drop-set-add n xs 0 x, drop-set xs n x more) in
       let last : at + length (ys ++ x ∷ []) ≡ n + 1 = omega (arith, length-append ys (x ∷ [])) in
       set-append_right (take at xs ++ ys) (drop n xs) n n x front_long (omega arith)
-      ∙ rw (none, first_set xs n x more, last, ← append_assoc (take at xs) ys (x ∷ []))
+      ∙ rw (none, first, last, ← append_assoc (take at xs) ys (x ∷ []))
       (sym (append_assoc (take at xs ++ ys) (x ∷ []) (drop (n + 1) xs)))
 
   -- Values that were written over the first of a range, and the others of it removed.
   over_removed : (end : ℕ) → at + length ys ≤ end → remove_range (over xs at ys) (at + length ys) end ≡ replace_range xs at end ys
   over_removed end more =
       let n = at + length ys in
-      let front = take at xs ++ ys in
-      let whole : n + (end - n) ≡ end = omega arith in
-      let behind : drop end (front ++ drop n xs) ≡ drop end xs =
-      ap (λ k. drop k (front ++ drop n xs)) (sym whole) ∙ sym (drop-drop (end - n) n (front ++ drop n xs))
-      ∙ ap (drop (end - n)) (drop_at front (drop n xs) n front_long) ∙ drop-drop (end - n) n xs ∙ ap (λ k. drop k xs) whole in
-      rw (take_at front (drop n xs) n front_long, behind) refl
-
--- taking twice is taking the fewer
-take_twice : {T : Type 0} (xs : List T) (n m : ℕ) → n ≤ m → take n (take m xs) ≡ take n xs
-take_twice xs n m h = grind (arith, common_steps)
+      let cut = drop_at (take at xs ++ ys) (drop n xs) n front_long in
+      let behind : drop end (over xs at ys) ≡ drop end xs = grind (arith, common_steps, drop-drop (end - n) n (over xs at ys), cut) in
+      rw (take_at (take at xs ++ ys) (drop n xs) n front_long, behind) refl
 
 -- The values from an index on moved up by n, after the first values of a longer list.
 pub widened : {T : Type 0} (xs front : List T) (len at n : ℕ) → take len xs ≡ front → length xs ≡ len + n → at ≤ len
     → over xs (at + n) (take (len - at) (drop at xs)) ≡ replace_range front at at (take n (drop at xs))
 widened {T} xs front len at n e long within =
     let tail : List T = take (len - at) (drop at xs) in
-    let none : drop (at + n + length tail) xs ≡ [] =
-    drop_all (at + n + length tail) xs (omega (arith, length-take (len - at) (drop at xs), length-drop at xs)) in
+    let none : drop (at + n + length tail) xs ≡ [] = grind (arith, common_steps) in
     let whole : at + (len - at) ≡ len = omega arith in
-    let behind : tail ≡ drop at front = sym (drop-take at (len - at) xs) ∙ ap (λ k. drop at (take k xs)) whole ∙ ap (drop at) e in
-    let first : take at front ≡ take at xs = ap (take at) (sym e) ∙ take_twice xs at len within in
-    ap (λ l. take (at + n) xs ++ tail ++ l) none ∙ append-nil (take (at + n) xs ++ tail) ∙ ap (λ l. l ++ tail) (take-add at n xs)
-    ∙ ap (λ l. take at xs ++ take n (drop at xs) ++ l) behind ∙ ap (λ l. l ++ take n (drop at xs) ++ drop at front) (sym first)
+    let behind : drop at (take len xs) ≡ tail = rw whole at (drop-take at (len - at) xs) in
+    rw (none, ← e, behind, take-take at len xs within, take-add at n xs, append-nil (take at xs ++ take n (drop at xs) ++ tail)) refl
 
 -- nothing in the place of nothing
 pub replaced_none : {T : Type 0} (xs : List T) (at : ℕ) → replace_range xs at at [] ≡ xs
@@ -90,25 +71,13 @@ replaced_none xs at = grind (arith, common_steps)
 -- what was put at an index is replaced
 pub replaced_again : {T : Type 0} (xs ys zs : List T) (at end : ℕ) → at ≤ length xs → end ≡ at + length ys
     → replace_range (replace_range xs at at ys) at end zs ≡ replace_range xs at at zs
-replaced_again xs ys zs at end within e =
-    let front = take at xs in
-    let long : length front ≡ at = omega (arith, length-take at xs) in
-    let both : length (front ++ ys) ≡ end = omega (arith, length-append front ys, long, e) in
-    rw (drop_at (front ++ ys) (drop at xs) end both, append_assoc front ys (drop at xs), take_at front (ys ++ drop at xs) at long) refl
-
--- the length afterwards
-length-replaced : {T : Type 0} (xs ys : List T) (start end : ℕ) → start ≤ length xs
-    → length (replace_range xs start end ys) ≡ start + length ys + (length xs - end)
-length-replaced xs ys start end within =
-    let both = length-append (take start xs ++ ys) (drop end xs) in
-    omega (arith, both, length-append (take start xs) ys, length-take start xs, length-drop end xs)
+replaced_again xs ys zs at end within e = grind (arith, common_steps)
 
 -- the length of a vector with a range replaced
 pub replaced_len : {T : Type 0} (item : Ghosts T) (m : Memory) (v w : Vec T) (start end : ℕ) (items : List T) → start ≤ v.raw.len
     → w.raw.len ≡ length (replace_range (vec_list item m v) start end items) → w.raw.len ≡ start + length items + (v.raw.len - end)
 replaced_len item m v w start end items within len =
-    let long = length-elements item.SIZE item.decoded v.raw.len (bytes_of m v.raw.block) in
-    rw long at (len ∙ length-replaced (vec_list item m v) items start end (omega (arith, long, within)))
+    grind (arith, common_steps, length-elements item.SIZE item.decoded v.raw.len (bytes_of m v.raw.block))
 
 -- ---- Filling
 
@@ -132,7 +101,7 @@ module _ {T I : Type 0} {item : Ghosts T} {steps : I → Option T → I → Type
     count = omega arith;
     yields = refl;
     held = held;
-    list_is = sym (over_none (vec_list item a.memory v) start);
+    list_is = grind (arith, common_steps);
     places = record { state = refl; statistics = refl; source = refl };
     frame = frame_reflexive a.memory (v.raw.block ∷ []);
   }
@@ -184,15 +153,13 @@ module _ {T I : Type 0} {item : Ghosts T} {steps : I → Option T → I → Type
       ∙ over_removed xs f.items start (omega (arith, f.count, long)) end (omega (arith, f.count)) in
       record {
         items = f.items;
-        becomes = record {
-          held = cut.held;
-          list_is = cut.list_is ∙ list;
-          len = cut.len ∙ ap length list;
-          block = cut.block;
-          cap = cut.cap;
-          places = same_then old mid new f.places cut.places;
-          frame = frame_then old.memory mid.memory new.memory _ _ _ f.frame cut.frame;
-        };
+        becomes = grind (
+          arith,
+          cut,
+          list,
+          same_then old mid new f.places cut.places,
+          frame_then old.memory mid.memory new.memory _ _ _ f.frame cut.frame,
+        );
         yields = λ is. absurd (let no : false ≡ true = is in cc);
         drains = λ short. (omega (arith, f.count), (last, (now, f.yields, step)));
       }
@@ -204,29 +171,18 @@ module _ {T : Type 0} {item : Ghosts T} where
   pub grows_then : {X : Type 0} {old mid new : View} {v u w : Vec T} {growth : Growth} {between list : List T} {x : X}
       → Grows {X = X} item old mid v growth between u (Ok x) → Becomes item mid new u list w
       → Grows {X = X} item old new v growth list w (Ok x)
-  grows_then {X} {old} {mid} {new} {v} {u} {w} {growth} {between} {list} {x} grows becomes = record {
-    made = room_then item.SIZE item.ALIGN old mid new v.raw.block v.raw.cap growth (λ _. u.raw.block) (λ _. w.raw.block) x x
-        becomes.block grows.made becomes.places;
-    held = becomes.held;
-    list_is = becomes.list_is;
-    len = becomes.len;
-    cap = becomes.cap ∙ grows.cap;
-    err = tt;
-    frame = frame_then old.memory mid.memory new.memory _ _ _ grows.frame becomes.frame;
-  }
+  grows_then {X} {old} {mid} {new} {v} {u} {w} {growth} {between} {list} {x} grows becomes = grind (
+    arith,
+    room_then item.SIZE item.ALIGN old mid new v.raw.block v.raw.cap growth (λ (y : X). u.raw.block) (λ (y : X). w.raw.block) x x
+        becomes.block grows.made becomes.places,
+    becomes,
+    frame_then old.memory mid.memory new.memory _ _ _ grows.frame becomes.frame,
+  )
 
   -- What takes no memory is no growth.
   pub grows_nothing : {old new : View} {v w : Vec T} {list : List T} → Becomes item old new v list w
       → Grows {X = Unit {0}} item old new v Stays list w (Ok tt)
-  grows_nothing becomes = record {
-    made = (becomes.block, becomes.places);
-    held = becomes.held;
-    list_is = becomes.list_is;
-    len = becomes.len;
-    cap = becomes.cap;
-    err = tt;
-    frame = becomes.frame;
-  }
+  grows_nothing becomes = grind (arith, becomes)
 
   -- Items were put in the places that were made.
   pub widen_filled : {I : Type 0} {steps : I → Option T → I → Type 0} {iter now : I} {old mid new : View} {v u w : Vec T} {at n : ℕ}

@@ -1,5 +1,5 @@
 -- What calls do to a vector.
-use Rattle.std.proofs.Common.{◌≡◌, ℕ, ◌+◌, ◌-◌, ◌*◌, ◌%◌, ◌^◌, ◌<◌, ◌≤◌, List, [], ◌∷◌, ◌++◌, length, take, drop, refl, sym, ap, ◌∙◌, arith, Ok, Err, set}
+use Rattle.std.proofs.Common.{◌≡◌, ℕ, ◌+◌, ◌-◌, ◌*◌, ◌%◌, ◌^◌, ◌<◌, ◌≤◌, List, [], ◌∷◌, length, take, drop, refl, sym, ap, ◌∙◌, arith, Ok, Err, set}
 use Rattle.std.proofs.Math.Nat.{mul-le-mul_left, mul-le-mul_right, mod-eq_of_lt}
 use Rattle.std.specs.List.{insert, remove_range}
 use Rattle.arena_chunks.specs.Memory.{Memory, image}
@@ -33,26 +33,15 @@ room_of item m v n held within = omega (arith, held.place.of_size, mul-le-mul_ri
 pub still_held : {T : Type 0} (item : Ghosts T) (old new : View) (v : Vec T) (n : ℕ) → IsVecIn item old.memory v → n ≤ v.raw.cap
     → SamePlaces old new
     → IsVecIn item new.memory (record { raw = record { block = v.raw.block; len = n; cap = v.raw.cap; of = v.raw.of } })
-still_held item old new v n held within same = record {
-  place = rw same.state held.place;
-  within = within;
-  no_bytes = held.no_bytes;
-}
+still_held item old new v n held within same = grind (arith, rw (← same.state) at held.place)
 
 -- Bytes of the block were written, so that the first n values are this list.
 pub becomes : {T : Type 0} (item : Ghosts T) (old new : View) (v : Vec T) (n : ℕ) (list : List T)
     → IsVecIn item old.memory v → n ≤ v.raw.cap → SamePlaces old new → Frame old.memory new.memory (v.raw.block ∷ []) (v.raw.block ∷ [])
     → raw_values item new.memory v.raw n ≡ list
     → Becomes item old new v list (record { raw = record { block = v.raw.block; len = n; cap = v.raw.cap; of = v.raw.of } })
-becomes item old new v n list held within same frame values = record {
-  held = still_held item old new v n held within same;
-  list_is = values;
-  len = sym (length-elements item.SIZE item.decoded n _) ∙ ap length values;
-  block = refl;
-  cap = refl;
-  places = same;
-  frame = frame;
-}
+becomes item old new v n list held within same frame values =
+    grind (arith, still_held item old new v n held within same, length-elements item.SIZE item.decoded n (bytes_of new.memory v.raw.block))
 
 -- Nothing was written, and fewer values count.
 pub shortened : {T : Type 0} (item : Ghosts T) (view : View) (v : Vec T) (n : ℕ) → IsVecIn item view.memory v → n ≤ v.raw.len
@@ -78,36 +67,16 @@ pub makes : {T : Type 0} (item : Ghosts T) (old mid new : View) (room : ℕ) (ra
       raw =
           record { block = raw.block; len = n; cap = raw.cap; of = raw.of };
     }))
-makes {T} item old mid new room raw n list made within same frame values = record {
-  made = room_then item.SIZE item.ALIGN old mid new (empty_block item.ALIGN) (empty_capacity item.SIZE) (new_growth item.SIZE room)
-      (λ (r : RawVec T). r.block) (λ (v : Vec T). v.raw.block) raw _ refl made.made same;
-  held = record {
-    place = rw same.state made.held.place;
-    within = within;
-    no_bytes = made.held.no_bytes;
-  };
-  list_is = values;
-  len = sym (length-elements item.SIZE item.decoded n _) ∙ ap length values;
-  cap = made.cap;
-  enough = made.enough;
-  frame = frame_then old.memory mid.memory new.memory [] (raw.block ∷ []) (raw.block ∷ []) made.frame frame;
-  err = tt;
-}
-
--- There was no place for storage.
-pub makes_refused : {T : Type 0} (item : Ghosts T) (old new : View) (room : ℕ) (list : List T) (e : AllocError)
-    → Makes {X = RawVec T} item (λ r. r) old new room [] (Err e) → Makes {X = Vec T} item (λ v. v.raw) old new room list (Err e)
-makes_refused {T} item old new room list e made = record {
-  made = room_refused {Y = Vec T} item.SIZE item.ALIGN old new (empty_block item.ALIGN) (empty_capacity item.SIZE) (new_growth item.SIZE room)
-      (λ (r : RawVec T). r.block) (λ (v : Vec T). v.raw.block) e made.made;
-  held = tt;
-  list_is = tt;
-  len = tt;
-  cap = tt;
-  enough = tt;
-  frame = tt;
-  err = made.err;
-}
+makes {T} item old mid new room raw n list made within same frame values =
+    let w : Vec T = record { raw = record raw { len = n } } in
+    grind (
+      arith,
+      room_then item.SIZE item.ALIGN old mid new (empty_block item.ALIGN) (empty_capacity item.SIZE) (new_growth item.SIZE room)
+          (λ (r : RawVec T). r.block) (λ (v : Vec T). v.raw.block) raw w refl made.made same,
+      rw (← same.state) at made.held.place,
+      length-elements item.SIZE item.decoded n (bytes_of new.memory raw.block),
+      frame_then old.memory mid.memory new.memory [] (raw.block ∷ []) (raw.block ∷ []) made.frame frame,
+    )
 
 module _ {T X : Type 0} (item : Ghosts T) (old mid : View) (v : Vec T) (growth : Growth) where
   -- Room was made, and bytes were written there, so that the first n values are this list.
@@ -116,35 +85,29 @@ module _ {T X : Type 0} (item : Ghosts T) (old mid : View) (v : Vec T) (growth :
       → IsGrown item old.memory mid.memory v.raw growth raw → n ≤ raw.cap → SamePlaces mid new
       → Frame mid.memory new.memory (raw.block ∷ []) (raw.block ∷ []) → raw_values item new.memory raw n ≡ list
       → Grows item old new v growth list (record { raw = record { block = raw.block; len = n; cap = raw.cap; of = raw.of } }) (Ok x)
-  grows new raw n list x made grown within same frame values = record {
-    made = room_then item.SIZE item.ALIGN old mid new v.raw.block v.raw.cap growth (λ (r : RawVec T). r.block)
-        (λ _. raw.block) raw x refl made same;
-    held = record {
-      place = rw same.state grown.held.place;
-      within = within;
-      no_bytes = grown.held.no_bytes;
-    };
-    list_is = values;
-    len = sym (length-elements item.SIZE item.decoded n _) ∙ ap length values;
-    cap = grown.cap;
-    err = tt;
-    frame = frame_then old.memory mid.memory new.memory (v.raw.block ∷ []) (raw.block ∷ []) (raw.block ∷ []) grown.frame frame;
-  }
+  grows new raw n list x made grown within same frame values = grind (
+    arith,
+    room_then item.SIZE item.ALIGN old mid new v.raw.block v.raw.cap growth (λ (r : RawVec T). r.block) (λ (y : X). raw.block) raw x refl
+        made same,
+    rw (← same.state) at grown.held.place,
+    length-elements item.SIZE item.decoded n (bytes_of new.memory raw.block),
+    frame_then old.memory mid.memory new.memory (v.raw.block ∷ []) (raw.block ∷ []) (raw.block ∷ []) grown.frame frame,
+  )
 
   -- There was no room.
   pub refused : (list : List T) (e : AllocError) → IsVecIn item old.memory v
       → MakesRoom item.SIZE item.ALIGN old mid v.raw.block v.raw.cap growth (λ (r : RawVec T). r.block) (Err e)
       → mid.memory ≡ old.memory → Grows {X = X} item old mid v growth list v (Err e)
-  refused list e held made same = record {
-    made = room_refused {Y = X} item.SIZE item.ALIGN old mid v.raw.block v.raw.cap growth (λ (r : RawVec T). r.block)
-        (λ _. v.raw.block) e made;
-    held = rw same held;
-    list_is = tt;
-    len = tt;
-    cap = tt;
-    err = (refl, same);
-    frame = rw same (frame_reflexive old.memory (v.raw.block ∷ []));
-  }
+  refused list e held made same =
+      let frame : Frame old.memory mid.memory (v.raw.block ∷ []) (v.raw.block ∷ []) = rw same (frame_reflexive old.memory _) in
+      let here : IsVecIn item mid.memory v = rw same held in
+      grind (
+        arith,
+        room_refused {Y = X} item.SIZE item.ALIGN old mid v.raw.block v.raw.cap growth (λ (r : RawVec T). r.block)
+            (λ (y : X). v.raw.block) e made,
+        here,
+        frame,
+      )
 
 module _ {T : Type 0} (item : Ghosts T) (old new : Memory) (v : Vec T) (growth : Growth) (raw : RawVec T) (held : IsVecIn item old v)
     (grown : IsGrown item old new v.raw growth raw) where
@@ -163,11 +126,9 @@ whole_bytes n size few small = mod-eq_of_lt (omega (arith, mul-le-mul_left n sma
 -- A front of the block is a boxed slice of that many values.
 module _ {T : Type 0} (item : Ghosts T) (m : Memory) (v : Vec T) (held : IsVecIn item m v) where
   pub slice_held : IsHeld (v.raw.len * item.SIZE) item.ALIGN m.state (record v.raw.block { size = v.raw.len * item.SIZE })
-  slice_held = record {
-    readable = front_readable m.state v.raw.block (v.raw.len * item.SIZE) held.place.readable (room_of item m v v.raw.len held held.within);
-    of_size = refl;
-    of_align = held.place.of_align;
-  }
+  slice_held =
+      let room = room_of item m v v.raw.len held held.within in
+      grind (arith, front_readable m.state v.raw.block (v.raw.len * item.SIZE) held.place.readable room, held.place)
 
   pub slice_same : elements item.SIZE item.decoded v.raw.len (bytes_of m (record v.raw.block { size = v.raw.len * item.SIZE }))
       ≡ vec_list item m v
@@ -205,4 +166,6 @@ pub ruleset vec_laws = (
   room_refused,
   same_list,
   mul-le-mul_right,
+  slice_held,
+  slice_same,
 )

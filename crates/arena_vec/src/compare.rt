@@ -8,6 +8,7 @@ use arena_chunks::{Allocator, ChunkSource};
 use arena_items::Item;
 use std::cmp::Ordering;
 
+#[tactic(auto, using(crate::proofs::CompareLemmas::loop_laws))]
 impl<T: Item + PartialEq> Vec<T> {
     /// Returns whether two vectors have the same length, and equal values at each index.
     pub fn eq<C: ChunkSource>(&self, a: &Allocator<C>, other: &Vec<T>) -> bool
@@ -46,6 +47,7 @@ impl<T: Item + PartialEq> Vec<T> {
     }
 }
 
+#[tactic(auto, using(crate::proofs::CompareLemmas::loop_laws))]
 impl<T: Item + Ord> Vec<T> {
     /// Compares two vectors. The first index at which they differ decides, and otherwise their lengths do.
     pub fn cmp<C: ChunkSource>(&self, a: &Allocator<C>, other: &Vec<T>) -> Ordering

@@ -17,6 +17,7 @@ use arena_items::{Item, item_at, put_item};
 
 // Moves the values that stay to the front, and returns their number. The last one is written only when the next one is
 // found, since each test until then may change it.
+#[tactic(auto, using(arena_items::proofs::Layers::rows_before))]
 fn merge<T: Item, C: ChunkSource, F: FnMut(&mut T, &mut T) -> bool>(
     a: &mut Allocator<C>,
     block: Block,

@@ -35,7 +35,7 @@ pub struct DrainFilter<'s, T: Item, C: ChunkSource, F: Drop> {
 impl<T: Item> Vec<T> {
     /// Removes the values that a test picks, once `finish` is called. If the iterator is dropped before, values may
     /// have been moved: nothing is said of the vector's list then.
-    #[tactic(auto, using(raw_vec::proofs::Windows::drain_laws))]
+    #[tactic(auto, using(raw_vec::proofs::Windows::drain_laws, crate::proofs::SiftLemmas::values_drop))]
     pub fn drain_filter<'s, C: ChunkSource, F: FnMut(&mut T) -> bool + Drop>(
         &'s mut self,
         a: &'s mut Allocator<C>,

@@ -79,6 +79,7 @@ impl<T: Item> Vec<T> {
     /// # Errors
     ///
     /// As for `try_reserve`. The items taken before are appended, except for the last, which is lost.
+    #[tactic(auto, using(crate::proofs::ExtendLemmas::extend_laws))]
     pub fn extend<C: ChunkSource, I: Iterator<Item = T>>(
         &mut self,
         a: &mut Allocator<C>,

@@ -8,6 +8,7 @@ use arena_chunks::{Allocator, ChunkSource};
 use arena_items::Item;
 use std::hash::{Hash, Hasher};
 
+#[tactic(auto, using(crate::proofs::VecLemmas::vec_laws))]
 impl<T: Item + Hash> Vec<T> {
     /// Feeds a hasher the length, and then each value.
     pub fn hash<C: ChunkSource, H: Hasher>(&self, a: &Allocator<C>, state: &mut H)

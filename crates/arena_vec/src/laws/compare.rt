@@ -1,5 +1,5 @@
 // What equality, order and hash of vectors mean, as facts about lists. The bound says that those of the elements are lawful.
-#![tactic(auto)]
+#![tactic(auto, using(crate::proofs::CompareLemmas::order_laws))]
 
 ghost use Rattle.std.specs.Prelude.{◌≡◌, ◌≢◌, ◌↔◌, ℕ, List, ◌∷◌, ◌++◌, IsTrue, Some};
 ghost use Rattle.std.specs.Cmp.{IsEquivalence, IsPartialEquivalence, IsTotalOrder};

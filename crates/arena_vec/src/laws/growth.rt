@@ -14,6 +14,7 @@ use arena_items::Item;
 /// What amortised growth costs. If twice the values that there are after n more still fit, the bytes that are asked
 /// for, with those saved up afterwards, are at most those of four times n values and those saved up before. So n values
 /// that are put into a new vector, in any number of such calls, ask for at most 4 * n * size bytes together.
+#[tactic(auto, using(crate::proofs::CreditLemmas::keeps, crate::proofs::CreditLemmas::asks))]
 pub fn growth_costs()
     ensures keeps { (size cap required : ℕ) → cap ≤ capacity_after (amortised_growth size cap required) cap }
     ensures asks { (size cap len n : ℕ) → len ≤ cap → 0 < size → (len + n) * (2 * size) ≤ 2 ^ 32
@@ -24,6 +25,7 @@ pub fn growth_costs()
 
 /// What a `Grows` by amortised growth says of the vector: the capacity never shrinks; a call that requires what fits is
 /// never a `CapacityOverflow`; and what a call asks for, with what is saved up then, is bounded as in `growth_costs`.
+#[tactic(auto, using(crate::proofs::CreditLemmas::vec_keeps))]
 pub fn vector_costs<T: Item, X>()
     ensures keeps { (old new : View) (v w : Vec T) (required : ℕ) (list : List T) (result : Result X AllocError)
         → Grows T.Item old new v (amortised_growth T.SIZE v.raw.cap required) list w result → v.raw.cap ≤ w.raw.cap }

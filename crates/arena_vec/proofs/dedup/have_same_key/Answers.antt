@@ -2,9 +2,6 @@ use Rattle.std.proofs.Common.{refl}
 use Rattle.std_alloc.proofs.RetainMut.{Called-Mut}
 use Rattle.arena_vec.proofs.dedup.have_same_key.Goals as goal
 
-pub key-requires : goal.key-requires
-key-requires g c = c.requires.0 _ refl
-
 pub key-requires-2 : goal.key-requires-2
 key-requires-2 g c = c.requires.1 _ _ _ (Called-Mut g.F.FnMut c.key.ensures) _ refl
 

@@ -9,6 +9,3 @@ returns-clause-list g c =
     let size = length-bytes (image c.args.a.now.memory) c.args.block.addr c.args.block.size in
     let sized : length c.sift.new.bytes ≡ c.args.block.size = c.sift.auto.bytes ∙ ap length lent.value ∙ size in
     rw (wrote_whole _ _ c.args.block _ (lent.writes c.sift.new.bytes sized) sized, ← lent.value) c.sift.ensures.list
-
-pub sift-requires-clause-callable : goal.sift-requires-clause-callable
-sift-requires-clause-callable g c = rw c.read_mut.ensures.value c.requires.callable

@@ -9,6 +9,3 @@ returns-clause-list g c =
     let size = length-bytes (image c.args.a.now.memory) c.args.block.addr c.args.block.size in
     let sized : length c.sift_mut.new.bytes ≡ c.args.block.size = c.sift_mut.auto.bytes ∙ ap length lent.value ∙ size in
     rw (wrote_whole _ _ c.args.block _ (lent.writes c.sift_mut.new.bytes sized) sized, ← lent.value) c.sift_mut.ensures.list
-
-pub sift_mut-requires-clause-callable : goal.sift_mut-requires-clause-callable
-sift_mut-requires-clause-callable g c = rw c.read_mut.ensures.value c.requires.callable

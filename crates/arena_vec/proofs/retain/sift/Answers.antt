@@ -1,16 +1,12 @@
-use Rattle.std.proofs.Common.{◌≤◌, arith, refl, []}
+use Rattle.std.proofs.Common.{arith, refl, sym, [], append-nil}
 use Rattle.std.proofs.lemmas.Fn.{called_at}
-use Rattle.arena_items.proofs.Layers.{length-elements, elements-cut}
-use Rattle.arena_vec.proofs.SiftLemmas.{rest_at, sift_starts, sift_goes_on, sift_ends, turn_sifts}
+use Rattle.arena_items.proofs.Layers.{drop_item}
+use Rattle.arena_vec.proofs.SiftLemmas.{sift_writes, sift_ends, turn_sifts, filtered}
 use Rattle.arena_vec.proofs.TurnLemmas.{turn_now}
-use Rattle.arena_vec.proofs.Walks.{filtered}
 use Rattle.arena_vec.proofs.retain.sift.Goals as goal
 
-pub loop-k-init : goal.loop-k-init
-loop-k-init g c = record { callable = c.requires.callable; sifting = sift_starts _ (λ zs left. left) }
-
 pub f-requires : goal.f-requires
-f-requires g c = turn_now (rest_at _ c.loop-k.k _ (c.value_in-item.ensures c.args.len (omega arith))) c.loop-k.invariant.callable _ refl
+f-requires g c = turn_now (drop_item _ c.loop-k.k _ (c.value_in-item.ensures c.args.len (omega arith))) c.loop-k.invariant.callable _ refl
 
 pub loop-k-preserved : goal.loop-k-preserved
 loop-k-preserved g c =
@@ -22,13 +18,9 @@ loop-k-preserved g c =
     let told = filtered _ c.f.result told_at in
     record {
       callable = rw put (turn_sifts _ _ c.loop-k.invariant.callable got sifting.order (c.f.result, told_at));
-      sifting = rw put (sift_goes_on c.f.result _ sifting got told);
+      sifting = rw put (sift_writes sifting got c.f.result _ told);
     }
 
 pub returns-clause-list : goal.returns-clause-list
 returns-clause-list g c =
-    let all = length-elements g.T.Item.SIZE g.T.Item.decoded c.args.len c.loop-k.bytes in
-    let sifting = c.loop-k.invariant.sifting in
-    let fewer : c.loop-k.kept ≤ c.args.len = omega (arith, sifting.order, c.loop-k.auto.k-end) in
-    let front = elements-cut g.T.Item.SIZE g.T.Item.decoded c.loop-k.kept c.args.len c.loop-k.bytes fewer in
-    rw front (sift_ends sifting (omega (arith, all)) ([], c.loop-k.f, refl, refl, refl))
+    sift_ends _ _ c.args.len _ [] c.loop-k.invariant.sifting (omega arith) ([], c.loop-k.f, refl, refl, refl) (sym (append-nil _))

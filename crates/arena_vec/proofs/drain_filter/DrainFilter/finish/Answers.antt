@@ -11,6 +11,3 @@ returns-clause-becomes g c =
       becomes g.T.Item c.args.self.arena.now c.drop_rest-vec.new.a c.args.self.vec.now c.drop_rest-vec.result _
           held (omega (arith, rest.fewer, held.within)) rest.places rest.frame rest.list.2,
     )
-
-pub returns-clause-held : goal.returns-clause-held
-returns-clause-held g c = (returns-clause-becomes g c).2.held

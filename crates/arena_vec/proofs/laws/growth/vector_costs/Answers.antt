@@ -1,8 +1,5 @@
-use Rattle.arena_vec.proofs.CreditLemmas.{vec_keeps, asks, fits_then}
+use Rattle.arena_vec.proofs.CreditLemmas.{asks, fits_then}
 use Rattle.arena_vec.proofs.laws.growth.vector_costs.Goals as goal
-
-pub returns-clause-keeps : goal.returns-clause-keeps
-returns-clause-keeps g c = vec_keeps g.T.Item
 
 pub returns-clause-fits : goal.returns-clause-fits
 returns-clause-fits g c = λ old new v w required list result few bytes grows.

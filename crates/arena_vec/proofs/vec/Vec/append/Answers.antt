@@ -1,16 +1,9 @@
 use Rattle.std.proofs.Common.{arith, ◌+◌}
 use Rattle.arena_chunks.proofs.Layers.{frame_then, frame_keeps_beside}
 use Rattle.arena_items.proofs.Layers.{wrote_same}
-use Rattle.arena_vec.proofs.VecLemmas.{grows, same_list, refused}
+use Rattle.arena_vec.proofs.VecLemmas.{grows, same_list}
 use Rattle.arena_vec.proofs.BulkLemmas.{now_cut, appended}
-use Rattle.std.proofs.lemmas.Result.{err_from_is_err_and}
 use Rattle.arena_vec.proofs.vec.Vec.append.Goals as goal
-
-pub returns-in_err-raw-clause-grows : goal.returns-in_err-raw-clause-grows
-returns-in_err-raw-clause-grows g c =
-    let e = err_from_is_err_and c.from_residual.result c.from_residual.ensures.1 in
-    rw (e.1, e.2) (refused g.T.Item c.args.a.now c.roomy.new.a c.args.self.now _ _ _ c.requires.held c.in_err-raw.ensures.made
-    c.in_err-raw.ensures.err)
 
 pub returns-clause-grows : goal.returns-clause-grows
 returns-clause-grows g c =

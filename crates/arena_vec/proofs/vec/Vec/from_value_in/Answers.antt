@@ -1,12 +1,7 @@
-use Rattle.std.proofs.Common.{arith, ◌∷◌, []}
+use Rattle.std.proofs.Common.{◌∷◌, []}
 use Rattle.arena_items.proofs.Layers.{elements-all, wrote_same}
-use Rattle.arena_vec.proofs.VecLemmas.{makes, room_of}
+use Rattle.arena_vec.proofs.VecLemmas.{makes}
 use Rattle.arena_vec.proofs.vec.Vec.from_value_in.Goals as goal
-
-pub put_item-requires-clause-range : goal.put_item-requires-clause-range
-put_item-requires-clause-range g c =
-    let made = c.in_ok-raw.ensures in
-    omega (arith, room_of g.T.Item c.with_capacity_in.new.a.memory (record { raw = c.in_ok-raw.raw }) 1 made.held made.enough)
 
 pub returns : goal.returns
 returns g c =

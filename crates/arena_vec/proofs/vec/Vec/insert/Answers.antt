@@ -1,15 +1,8 @@
 use Rattle.std.proofs.Common.{arith, ◌+◌, ◌≤◌}
 use Rattle.arena_chunks.proofs.Layers.{frame_then}
 use Rattle.arena_items.proofs.Layers.{length-elements, wrote_same, same_then}
-use Rattle.arena_vec.proofs.VecLemmas.{grows, same_front, room_of, inserted, refused}
-use Rattle.std.proofs.lemmas.Result.{err_from_is_err_and}
+use Rattle.arena_vec.proofs.VecLemmas.{grows, same_front, room_of, inserted}
 use Rattle.arena_vec.proofs.vec.Vec.insert.Goals as goal
-
-pub returns-in_err-raw : goal.returns-in_err-raw
-returns-in_err-raw g c =
-    let e = err_from_is_err_and c.from_residual.result c.from_residual.ensures.1 in
-    rw (e.1, e.2) (refused g.T.Item c.args.a.now c.roomy.new.a c.args.self.now _ _ _ c.requires.held c.in_err-raw.ensures.made
-    c.in_err-raw.ensures.err)
 
 pub returns : goal.returns
 returns g c =

@@ -1,14 +1,7 @@
 use Rattle.std.proofs.Common.{arith, ◌+◌, ap, ◌∙◌, ◌++◌, ◌∷◌, []}
-use Rattle.std.proofs.lemmas.Result.{err_from_is_err_and}
 use Rattle.arena_items.proofs.Layers.{wrote_same}
-use Rattle.arena_vec.proofs.VecLemmas.{grows, refused, same_list}
+use Rattle.arena_vec.proofs.VecLemmas.{grows, same_list}
 use Rattle.arena_vec.proofs.vec.Vec.push_with_room.Goals as goal
-
-pub returns-in_err-raw : goal.returns-in_err-raw
-returns-in_err-raw g c =
-    let e = err_from_is_err_and c.from_residual.result c.from_residual.ensures.1 in
-    rw (e.1, e.2) (refused g.T.Item c.args.a.now c.roomy.new.a c.args.self.now _ _ _ c.requires.held c.in_err-raw.ensures.made
-    c.in_err-raw.ensures.err)
 
 pub returns : goal.returns
 returns g c =

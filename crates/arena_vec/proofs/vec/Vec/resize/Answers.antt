@@ -1,17 +1,8 @@
 use Rattle.std.proofs.Common.{arith, ◌≡◌, ◌+◌, ◌-◌}
 use Rattle.arena_items.proofs.Layers.{wrote_same}
-use Rattle.arena_vec.proofs.VecLemmas.{grows, same_list, refused}
+use Rattle.arena_vec.proofs.VecLemmas.{grows, same_list}
 use Rattle.arena_vec.proofs.BulkLemmas.{cut_grows, filled}
-use Rattle.std.proofs.lemmas.Result.{err_from_is_err_and}
 use Rattle.arena_vec.proofs.vec.Vec.resize.Goals as goal
-
-pub returns-in_err-raw : goal.returns-in_err-raw
-returns-in_err-raw g c =
-    let v = c.args.self.now in
-    let all : v.raw.len + (c.args.new_len - v.raw.len) ≡ c.args.new_len = omega arith in
-    let e = err_from_is_err_and c.from_residual.result c.from_residual.ensures.1 in
-    rw (e.1, e.2) (refused g.T.Item c.args.a.now c.roomy.new.a v _ _ _ c.requires.held (rw all at c.in_err-raw.ensures.made)
-    c.in_err-raw.ensures.err)
 
 pub returns-then-new_len-self : goal.returns-then-new_len-self
 returns-then-new_len-self g c = cut_grows g.T.Item c.args.a.now c.args.self.now c.args.new_len c.args.value c.requires.held (omega arith)

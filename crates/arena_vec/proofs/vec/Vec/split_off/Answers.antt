@@ -1,15 +1,9 @@
 use Rattle.std.proofs.Common.{◌-◌, [], ◌∷◌}
-use Rattle.std.proofs.lemmas.Result.{err_from_is_err_and}
 use Rattle.arena_chunks.proofs.Layers.{frame_then, frame_keeps_new}
 use Rattle.arena_items.proofs.Layers.{wrote_same}
-use Rattle.arena_vec.proofs.VecLemmas.{makes, makes_refused}
+use Rattle.arena_vec.proofs.VecLemmas.{makes}
 use Rattle.arena_vec.proofs.BulkLemmas.{now_cut, split}
 use Rattle.arena_vec.proofs.vec.Vec.split_off.Goals as goal
-
-pub returns-in_err-raw-clause-makes : goal.returns-in_err-raw-clause-makes
-returns-in_err-raw-clause-makes g c =
-    let e = err_from_is_err_and c.from_residual.result c.from_residual.ensures.1 in
-    rw (e.1, e.2) (makes_refused g.T.Item c.args.a.now c.with_capacity_in.new.a _ _ _ c.in_err-raw.ensures)
 
 pub returns-clause-makes : goal.returns-clause-makes
 returns-clause-makes g c =

@@ -13,5 +13,5 @@ loop-i-preserved g c =
     text_more g.T.Debug.debug_output _ c.loop-i.i _ _ c.loop-i.invariant _ _ c.get-value.ensures lead c.in_ok-write.ensures.bytes
 
 pub returns : goal.returns
-returns g c = text_all g.T.Debug.debug_output _ c.loop-i.i _ _ c.loop-i.invariant
-    (omega (arith, length-elements {T = g.row.T.Denot})) c.in_ok-push_str.ensures.bytes
+returns g c = text_all g.T.Debug.debug_output _ c.loop-i.i _ _ c.loop-i.invariant _ (length-elements _ _ _ _) (omega arith)
+    c.in_ok-push_str.ensures.bytes
