@@ -1,9 +1,10 @@
 -- Characters as UTF-8, byte by byte.
-use Rattle.std.proofs.Common.{◌≡◌, ◌≢◌, ℕ, zero, suc, ◌+◌, ◌/◌, ◌%◌, ◌<◌, List, [], ◌∷◌, ◌++◌, length, get_or, take, drop, set, replicate, ap, sym, ◌∙◌, subst, refl, arith}
+use Rattle.std.proofs.Common.{◌≡◌, add-one, ◌≢◌, ℕ, ◌+◌, ◌/◌, ◌%◌, ◌<◌, List, [], ◌∷◌, length, get_or, take, set, replicate, arith}
 use Rattle.std.proofs.lemmas.Bool.Decides.{nat_tests}
-use Rattle.std.proofs.lemmas.List.{set_split}
+use Rattle.std.proofs.lemmas.Grind.{common_steps}
+use Rattle.std.proofs.lemmas.List.{set_split, nil_from_length}
 use Rattle.std.proofs.lemmas.Str.{IsUtf8-nil, IsUtf8-encode, IsUtf8-append, IsUtf8-take, IsUtf8-drop, IsUtf8-from_ascii, IsCharBoundary-after_ascii}
-use Rattle.std.specs.Str.{IsUtf8, IsAscii}
+use Rattle.std.specs.Str.{IsUtf8}
 use Rattle.std.specs.Char.{encode_utf8, len_utf8}
 
 -- ---- The bytes of a character, by their number
@@ -28,45 +29,37 @@ four c not_1 not_2 not_3 = grind (arith, nat_tests)
 -- ---- Places of one to four bytes, each of which is set
 
 pub set_one : (old : List ℕ) (a : ℕ) → length old ≡ 1 → set old 0 a ≡ a ∷ []
+set_one (x ∷ old) a e = grind (arith, nil_from_length {X = ℕ})
 set_one [] a e = absurd (omega arith)
-set_one (x ∷ []) a e = refl
-set_one (x ∷ y ∷ old) a e = absurd (omega arith)
 
 pub set_two : (old : List ℕ) (a b : ℕ) → length old ≡ 2 → set (set old 0 a) 1 b ≡ a ∷ b ∷ []
-set_two [] a b e = absurd (omega arith)
-set_two (x ∷ old) a b e = ap (λ (l : List ℕ). a ∷ l) (set_one old b (omega arith))
+set_two (x ∷ y ∷ old) a b e = grind (arith, nil_from_length {X = ℕ})
+set_two old a b e = absurd (grind arith)
 
 pub set_three : (old : List ℕ) (a b c : ℕ) → length old ≡ 3 → set (set (set old 0 a) 1 b) 2 c ≡ a ∷ b ∷ c ∷ []
-set_three [] a b c e = absurd (omega arith)
-set_three (x ∷ old) a b c e = ap (λ (l : List ℕ). a ∷ l) (set_two old b c (omega arith))
+set_three (x ∷ y ∷ z ∷ old) a b c e = grind (arith, nil_from_length {X = ℕ})
+set_three old a b c e = absurd (grind arith)
 
 pub set_four : (old : List ℕ) (a b c d : ℕ) → length old ≡ 4
     → set (set (set (set old 0 a) 1 b) 2 c) 3 d ≡ a ∷ b ∷ c ∷ d ∷ []
-set_four [] a b c d e = absurd (omega arith)
-set_four (x ∷ old) a b c d e = ap (λ (l : List ℕ). a ∷ l) (set_three old b c d (omega arith))
+set_four (x ∷ y ∷ z ∷ u ∷ old) a b c d e = grind (arith, nil_from_length {X = ℕ})
+set_four old a b c d e = absurd (grind arith)
 
 pub ruleset chars = (one, two, three, four, set_one, set_two, set_three, set_four)
 
 -- ---- What is UTF-8
 
 -- ASCII bytes are.
-times_ascii : (byte n : ℕ) → byte < 128 → IsAscii (replicate n byte)
-times_ascii byte zero small i = omega arith
-times_ascii byte (suc n) small zero = small
-times_ascii byte (suc n) small (suc i) = times_ascii byte n small i
-
 pub ascii_utf8 : (byte n : ℕ) → byte < 128 → IsUtf8 (replicate n byte)
-ascii_utf8 byte n small = IsUtf8-from_ascii (replicate n byte) (times_ascii byte n small)
+ascii_utf8 byte n small = IsUtf8-from_ascii (replicate n byte) (λ i. grind (arith, common_steps))
 
 -- So is a text in which one ASCII byte is replaced by another.
 pub set_utf8 : (bytes : List ℕ) (i byte : ℕ) → IsUtf8 bytes → i < length bytes → get_or bytes i 0 < 128 → byte < 128
     → IsUtf8 (set bytes i byte)
 set_utf8 bytes i byte text inside ascii small =
-    let behind : suc i ≡ i + 1 = omega arith in
-    let parts = set_split bytes i byte inside ∙ ap (λ n. take i bytes ++ byte ∷ drop n bytes) behind in
     let front = IsUtf8-take bytes i text (omega arith, λ below many. absurd (omega arith)) in
-    let one : IsUtf8 (byte ∷ []) = ascii_utf8 byte 1 small in
     let back = IsUtf8-drop bytes (i + 1) text (IsCharBoundary-after_ascii bytes i text inside ascii) in
-    subst IsUtf8 (sym parts) (IsUtf8-append (take i bytes) _ front (IsUtf8-append (byte ∷ []) (drop (i + 1) bytes) one back))
+    let rest = IsUtf8-append (byte ∷ []) _ (ascii_utf8 byte 1 small) back in
+    rw (set_split bytes i byte inside, ← add-one) (IsUtf8-append (take i bytes) _ front rest)
 
 pub ruleset utf8 = (IsUtf8-nil, IsUtf8-encode, IsUtf8-append, ascii_utf8, set_utf8)

@@ -1,7 +1,8 @@
 -- Texts whose bytes are written.
-use Rattle.std.proofs.Common.{◌≡◌, ℕ, ◌+◌, ◌^◌, ◌≤◌, ◌<◌, List, [], ◌∷◌, ◌++◌, length, take, drop, set, get_or, subst, Ok, Err, refl, ap, sym, ◌∙◌, IsTrue, IsUtf8, Result, IsOk, arith}
+use Rattle.std.proofs.Common.{◌≡◌, add-one, ℕ, ◌+◌, ◌^◌, ◌≤◌, ◌<◌, List, [], ◌∷◌, ◌++◌, length, take, set, get_or, subst, Ok, Err, refl, ap, sym, ◌∙◌, IsTrue, IsUtf8, Result, IsOk, arith}
 use Rattle.std.proofs.lemmas.Grind.{common_steps}
-use Rattle.std.proofs.lemmas.List.{take_all, length-take-le, take_more_set, drop-set-lt, take-append-drop, take_more, flat_map_more, length-append}
+use Rattle.std.proofs.lemmas.List.{append_assoc, set_split, take_all, length-take-le, take_more, flat_map_more, length-append}
+use Rattle.std.proofs.lemmas.List.Folds.{length-flat_map-take}
 use Rattle.std.proofs.lemmas.Str.{IsUtf8-append}
 use Rattle.std.proofs.Math.Seq.{take-set-lt}
 use Rattle.std.specs.List.{flat_map}
@@ -15,15 +16,14 @@ use Rattle.arena_chunks.proofs.Layers.{length-bytes, bytes_within, take_bytes, w
 use Rattle.arena_items.specs.Values.{bytes_of}
 use Rattle.arena_items.specs.Room.{MakesRoom, SamePlaces}
 use Rattle.arena_items.specs.declared.room.Growth.{Growth}
-use Rattle.arena_items.specs.declared.room.Growth.TheVariants.{Stays}
 use Rattle.arena_items.specs.declared.room.AllocError.{AllocError}
 use Rattle.arena_items.specs.declared.room.AllocError.TheVariants.{CapacityOverflow}
 use Rattle.arena_items.proofs.Layers.{front_readable, same_then, wrote_same, room_then, room_refused}
-use Rattle.arena_text.specs.Growth.{new_growth, amortised_growth, IsRoomFor}
+use Rattle.arena_text.specs.Growth.{new_growth, amortised_growth}
 use Rattle.arena_text.specs.Builders.{IsBuilderIn, builder_bytes, no_block}
 use Rattle.arena_text.specs.Changes.{Becomes, Grows, Makes, IsGrown}
 use Rattle.arena_text.specs.declared.text.StringBuilder.{StringBuilder}
-use Rattle.arena_text.proofs.RoomLemmas.{new_capacity, too_many, room_there, room_pushed}
+use Rattle.arena_text.proofs.RoomLemmas.{new_capacity, too_many, room_there}
 
 -- ---- Bytes
 
@@ -38,14 +38,13 @@ front_below n x bs within = grind (arith, common_steps)
 
 -- and one in which a value is replaced.
 front_set : (n i x : ℕ) (bs : List ℕ) → i < n → n ≤ length bs → take n (splice bs i (x ∷ [])) ≡ set (take n bs) i x
-front_set n i x bs inside within =
-    let below : i < i + 1 = omega arith in
-    ap (take n) (ap (λ l. l ++ drop (i + 1) bs) (sym (take_more_set bs i x (omega arith)))
-    ∙ ap (λ l. take (i + 1) (set bs i x) ++ l) (sym (drop-set-lt (i + 1) bs i x below)) ∙ take-append-drop (i + 1) (set bs i x))
-    ∙ take-set-lt n bs i x inside
+front_set n i x bs inside within = rw (append_assoc, add-one, ← set_split bs i x (omega arith)) (take-set-lt n bs i x inside)
 
 -- for a change in place
 pub ruleset edits = (edits_to, length-bytes)
+
+-- for texts one after another
+pub ruleset rows = (length-flat_map-take)
 
 -- ---- Texts
 
@@ -59,10 +58,7 @@ long m t held = length-bytes (image m) t.block.addr t.block.size ∙ held.place.
 -- A text is held after a write in its block, with any length up to its capacity.
 held_still : (old new : View) (t : StringBuilder) (n : ℕ) → IsBuilderIn old.memory t → n ≤ t.cap → SamePlaces old new
     → IsBuilderIn new.memory (record t { len = n })
-held_still old new t n held within same = record {
-  place = rw same.state held.place;
-  within = within;
-}
+held_still old new t n held within same = grind (arith, held.place, same)
 
 -- Its length is that of its bytes.
 pub counted : (m : Memory) (t : StringBuilder) → IsBuilderIn m t → t.len ≡ length (builder_bytes m t)
@@ -80,18 +76,10 @@ pub replaced : (old new : View) (t : StringBuilder) (i byte : ℕ) → IsBuilder
     → Becomes old new t (set (builder_bytes old.memory t) i byte) t
 replaced old new t i byte held inside writes source =
     let same = wrote_same old new t.block i (byte ∷ []) writes source in
-    let held_then = held_still old new t t.len held held.within same in
-    let bytes = ap (take t.len) (spliced old new t i (byte ∷ []) held (omega (arith, held.within)) writes)
-    ∙ front_set t.len i byte (bytes_of old.memory t.block) inside (omega (arith, long old.memory t held, held.within)) in
-    record {
-      held = held_then;
-      bytes_are = bytes;
-      len = counted new.memory t held_then ∙ ap length bytes;
-      block = refl;
-      cap = refl;
-      places = same;
-      frame = writes.frame;
-    }
+    let now = held_still old new t t.len held held.within same in
+    let bytes = spliced old new t i (byte ∷ []) held (omega (arith, held.within)) writes in
+    let count = counted new.memory t now in
+    grind (arith, now, same, writes, bytes, front_set t.len i byte (bytes_of old.memory t.block), long old.memory t held, count)
 
 module _ (old mid : View) (t : StringBuilder) (growth : Growth) where
   module _ (u : StringBuilder) (made : MakesRoom 1 1 old mid t.block t.cap growth (λ u. u.block) (Ok u))
@@ -102,15 +90,9 @@ module _ (old mid : View) (t : StringBuilder) (growth : Growth) where
         → Grows old new t growth list (record { block = u.block; len = n; cap = u.cap }) (Ok tt)
     grows new n list within same frame bytes =
         let held = held_still mid new u n grown.held within same in
-        record {
-          made = room_then 1 1 old mid new t.block t.cap growth block_of (λ _. u.block) u tt refl made same;
-          held = held;
-          bytes_are = bytes;
-          len = counted new.memory (record u { len = n }) held ∙ ap length bytes;
-          cap = grown.cap;
-          err = tt;
-          frame = frame_then old.memory mid.memory new.memory (t.block ∷ []) (u.block ∷ []) (u.block ∷ []) grown.frame frame;
-        }
+        let frame = frame_then old.memory mid.memory new.memory (t.block ∷ []) (u.block ∷ []) (u.block ∷ []) grown.frame frame in
+        let made = room_then 1 1 old mid new t.block t.cap growth block_of (λ _. u.block) u (tt {0}) refl made same in
+        grind (arith, made, held, counted new.memory (record u { len = n }) held, grown.cap, frame)
 
     -- Nothing was written.
     pub reserves : Grows old mid t growth (builder_bytes old.memory t) u (Ok tt)
@@ -148,15 +130,8 @@ module _ (old mid : View) (t : StringBuilder) (growth : Growth) where
   pub refused : (list : List ℕ) (e : AllocError) → IsBuilderIn old.memory t
       → MakesRoom 1 1 old mid t.block t.cap growth block_of (Err e) → mid.memory ≡ old.memory
       → Grows old mid t growth list t (Err e)
-  refused list e held made same = record {
-    made = room_refused {Y = Unit {0}} 1 1 old mid t.block t.cap growth block_of (λ _. t.block) e made;
-    held = rw same held;
-    bytes_are = tt;
-    len = tt;
-    cap = tt;
-    err = (refl, same);
-    frame = rw same (frame_reflexive old.memory (t.block ∷ []));
-  }
+  refused list e held made same = let frame = frame_reflexive old.memory (t.block ∷ []) in
+      grind (arith, room_refused {Y = Unit {0}} 1 1 old mid t.block t.cap growth block_of (λ _. t.block) e made, frame)
 
 -- ---- Texts that are made
 
@@ -166,15 +141,8 @@ pub made_empty : (old new : View) (empty t : StringBuilder) (room : ℕ) → emp
     → IsGrown old.memory new.memory empty (new_growth room) t → Makes old new room [] (Ok t)
 made_empty old new empty t room block none cap made grown =
     let is = rw (block, cap) at made in
-    record {
-      made = is;
-      held = grown.held;
-      bytes_are = ap (λ n. take n (bytes_of new.memory t.block)) (grown.len ∙ none);
-      len = grown.len ∙ none;
-      cap = rw cap at grown.cap ∙ new_capacity old new no_block room (λ t. t.block) t is;
-      frame = (empty_before old.memory new.memory [] [] (t.block ∷ []) empty.block (ap (λ b. b.size) block)).0 grown.frame;
-      err = tt;
-    }
+    let frame = (empty_before old.memory new.memory [] [] (t.block ∷ []) empty.block (ap (λ b. b.size) block)).0 grown.frame in
+    grind (arith, is, grown, new_capacity old new no_block room (λ t. t.block) t is, frame)
 
 -- Then its room was filled.
 pub made_full : (old mid new : View) (t : StringBuilder) (list : List ℕ) → Makes old mid (length list) [] (Ok t)
@@ -184,28 +152,14 @@ made_full old mid new t list made writes source =
     let same = wrote_same mid new t.block 0 list writes source in
     let held = held_still mid new t t.cap made.held (omega arith) same in
     let whole = wrote_whole mid.memory new.memory t.block list writes (omega (arith, made.cap, made.held.place.of_size)) in
-    record {
-      made = room_then 1 1 old mid new no_block 0 (new_growth (length list)) block_of block_of t _ refl made.made same;
-      held = held;
-      bytes_are = take_all t.cap (bytes_of new.memory t.block) (omega (arith, long new.memory (record t { len = t.cap }) held)) ∙ whole;
-      len = made.cap;
-      cap = made.cap;
-      frame = frame_then old.memory mid.memory new.memory [] (t.block ∷ []) (t.block ∷ []) made.frame writes.frame;
-      err = tt;
-    }
+    let full : StringBuilder = record { block = t.block; len = t.cap; cap = t.cap } in
+    let room = room_then 1 1 old mid new no_block 0 (new_growth (length list)) block_of block_of t full refl made.made same in
+    let frame = frame_then old.memory mid.memory new.memory [] (t.block ∷ []) (t.block ∷ []) made.frame writes.frame in
+    grind (arith, room, held, take_all t.cap (bytes_of new.memory t.block), long new.memory full held, whole, made.cap, frame)
 
 -- There is no room for that many bytes.
 pub not_made : (view : View) (n : ℕ) (bytes : List ℕ) → 2 ^ 64 ≤ n → Makes view view n bytes (Err CapacityOverflow)
-not_made view n bytes many = record {
-  made = subst (λ growth. MakesRoom 1 1 view view no_block 0 growth block_of (Err CapacityOverflow))
-      (sym (too_many n (omega arith))) (refl, refl);
-  held = tt;
-  bytes_are = tt;
-  len = tt;
-  cap = tt;
-  frame = tt;
-  err = refl;
-}
+not_made view n bytes many = grind (arith, too_many n (omega arith))
 
 -- One text more after the first i:
 texts_more : {T : Type 0} (f : T → List ℕ) (xs : List T) (i : ℕ) (x : T) → i < length xs → x ≡ get_or xs i x
@@ -224,26 +178,20 @@ pub one_more : {T : Type 0} (f : T → List ℕ) (xs : List T) (i : ℕ) (x : T)
     → WritesBlock old new b 0 (flat_map f (take (i + 1) xs)) × (at + length (f x) ≡ length (flat_map f (take (i + 1) xs)))
 one_more f xs i x old mid new b at inside is end first second =
     let list = flat_map f (take i xs) in
-    let more = texts_more f xs i x inside is in
-    let behind : at ≡ 0 + length list = omega (arith, end) in (
-      subst (WritesBlock old new b 0) more (writes_more old mid new b 0 list (f x) first (rw behind at second)),
-      ap (λ (n : ℕ). n + length (f x)) end ∙ sym (length-append list (f x)) ∙ ap length more,
-    )
+    let behind : at ≡ 0 + length list = omega (arith, end) in
+    let both = writes_more old mid new b 0 list (f x) first (rw behind at second) in
+    rw (← texts_more f xs i x inside is) (both, omega (arith, end, length-append list (f x)))
 
 -- ---- Calls within the room that there is
 
 -- They aren't refused,
 pub stays_ok : (old new : View) (t u : StringBuilder) (n : ℕ) (list : List ℕ) (result : Result (Unit {0}) AllocError) → t.len + n ≤ t.cap
     → Grows old new t (amortised_growth t.cap t.len n) list u result → IsOk result × SamePlaces old new
-stays_ok old new t u n list result room is = go result (rw (room_there t.cap t.len n room) at is.made)
-  where
-    go : (r : Result (Unit {0}) AllocError) → MakesRoom 1 1 old new t.block t.cap Stays (λ _. u.block) r → IsOk r × SamePlaces old new
-    go (Ok x) made = (refl, made.1)
-    go (Err e) made = absurd made.0
+stays_ok old new t u n list result room is = grind (arith, rw (room_there t.cap t.len n room) at is.made)
 
 pub never_refused : (old new : View) (t u : StringBuilder) (n : ℕ) (list : List ℕ) (e : AllocError) → t.len + n ≤ t.cap
     → ¬ (Grows old new t (amortised_growth t.cap t.len n) list u (Err e))
-never_refused old new t u n list e room is = absurd (let ok = (stays_ok old new t u n list (Err e) room is).0 in cc)
+never_refused old new t u n list e room is = let ok = (stays_ok old new t u n list (Err e) room is).0 in cc
 
 -- and are one with the call that made the room.
 pub made_within : (old mid new : View) (t u : StringBuilder) (room n : ℕ) (first list : List ℕ) → Makes old mid room first (Ok t)
@@ -251,15 +199,9 @@ pub made_within : (old mid new : View) (t u : StringBuilder) (room n : ℕ) (fir
 made_within old mid new t u room n first list made fits one =
     let stays = room_there t.cap t.len n fits in
     let there = rw stays at one.made in
-    record {
-      made = room_then 1 1 old mid new no_block 0 (new_growth room) block_of block_of t u there.0 made.made there.1;
-      held = one.held;
-      bytes_are = one.bytes_are;
-      len = one.len;
-      cap = rw stays at one.cap ∙ made.cap;
-      frame = frame_then old.memory mid.memory new.memory [] (t.block ∷ []) (u.block ∷ []) made.frame one.frame;
-      err = tt;
-    }
+    let room = room_then 1 1 old mid new no_block 0 (new_growth room) block_of block_of t u there.0 made.made there.1 in
+    let frame = frame_then old.memory mid.memory new.memory [] (t.block ∷ []) (u.block ∷ []) made.frame one.frame in
+    grind (arith, one, stays, made.cap, room, frame)
 
 pub grown_within : (old mid new : View) (t u v : StringBuilder) (growth : Growth) (n : ℕ) (first list : List ℕ)
     (result : Result (Unit {0}) AllocError) → Grows old mid t growth first u (Ok tt) → u.len + n ≤ u.cap
@@ -268,22 +210,9 @@ grown_within old mid new t u v growth n first list (Err e) one fits two = absurd
 grown_within old mid new t u v growth n first list (Ok x) one fits two =
     let stays = room_there u.cap u.len n fits in
     let there = rw stays at two.made in
-    record {
-      made = room_then 1 1 old mid new t.block t.cap growth (λ (x : Unit {0}). u.block) (λ (x : Unit {0}). v.block) tt x
-          there.0 one.made there.1;
-      held = two.held;
-      bytes_are = two.bytes_are;
-      len = two.len;
-      cap = rw stays at two.cap ∙ one.cap;
-      err = tt;
-      frame = frame_then old.memory mid.memory new.memory (t.block ∷ []) (u.block ∷ []) (v.block ∷ []) one.frame two.frame;
-    }
-
--- If bytes are added to a text its room is at most twice its bytes plus 8, if it was so before.
-pub pushed_room : (old new : View) (t u : StringBuilder) (n : ℕ) (list : List ℕ) → IsBuilderIn old.memory t → IsRoomFor t.len t.cap
-    → length list ≡ t.len + n → Grows old new t (amortised_growth t.cap t.len n) list u (Ok tt) → IsRoomFor u.len u.cap
-pushed_room old new t u n list held room long is =
-    omega (arith, is.len, is.cap, long, room_pushed t.cap t.len n held.within room)
+    let made = room_then 1 1 old mid new t.block t.cap growth (λ _. u.block) (λ _. v.block) (tt {0}) x there.0 one.made there.1 in
+    let frame = frame_then old.memory mid.memory new.memory (t.block ∷ []) (u.block ∷ []) (v.block ∷ []) one.frame two.frame in
+    grind (arith, two, stays, one.cap, made, frame)
 
 -- ---- Texts that are read
 

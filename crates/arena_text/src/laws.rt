@@ -42,6 +42,7 @@ pub fn room_rule()
 /// If a text has room for at most twice its bytes plus 8, as one without room does, this stays so when bytes are added.
 /// And if all blocks that it asked for, one after another, have together at most twice the bytes of the last, this
 /// stays so as long as that has less than 2^62 bytes.
+#[tactic(auto, unfolding(crate::specs::Growth::growth_to, crate::specs::Growth::amortised))]
 pub fn pushed_rule()
     ensures text { (old new : View) (t u : StringBuilder) (n : ℕ) (list : List ℕ) → IsBuilderIn old.memory t
         → IsRoomFor t.len t.cap → length list ≡ t.len + n

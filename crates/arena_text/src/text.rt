@@ -200,6 +200,7 @@ impl StringBuilder {
 }
 
 // Returns the total length of texts, or `None` if it doesn't fit in 64 bits.
+#[tactic(auto, using(crate::proofs::TextLemmas::rows))]
 fn whole_length<T: AsStr>(strings: &[T]) -> Option<u64>
     ensures none { IfNone result (2 ^ 64 ≤ length (flat_map T.text strings.now)) }
     ensures some { IfSome result (λ n. n ≡ length (flat_map T.text strings.now)) }
@@ -212,6 +213,7 @@ fn whole_length<T: AsStr>(strings: &[T]) -> Option<u64>
 }
 
 // Writes texts, one after another, from the start of a block on.
+#[tactic(auto, using(crate::proofs::TextLemmas::rows))]
 fn write_all<T: AsStr, C: ChunkSource>(a: &mut Allocator<C>, block: Block, strings: &[T])
     requires readable { IsTrue (is_readable a.old.memory.state block) }
     requires room { length (flat_map T.text strings.now) ≤ block.size }

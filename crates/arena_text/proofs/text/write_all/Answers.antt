@@ -1,5 +1,4 @@
-use Rattle.std.proofs.Common.{rules, arith, refl, ◌∙◌}
-use Rattle.std.proofs.lemmas.List.Folds.{length-flat_map-take}
+use Rattle.std.proofs.Common.{arith, refl, ◌∙◌}
 use Rattle.std.proofs.lemmas.Str.{IsUtf8-nil}
 use Rattle.arena_chunks.proofs.Layers.{writes_nothing}
 use Rattle.arena_text.proofs.TextLemmas.{one_more, utf8_more}
@@ -12,14 +11,6 @@ loop-s-init g c = record {
   utf8 = IsUtf8-nil;
   source = refl;
 }
-
-pub write-requires-clause-range : goal.write-requires-clause-range
-write-requires-clause-range g c =
-    let more = length-flat_map-take g.T.AsStr.text c.args.strings.now c.loop-s.s-index c.s-item.result in search rules
-
-pub overflow_add-at : goal.overflow_add-at
-overflow_add-at g c =
-    let more = length-flat_map-take g.T.AsStr.text c.args.strings.now c.loop-s.s-index c.s-item.result in search rules
 
 pub loop-s-preserved : goal.loop-s-preserved
 loop-s-preserved g c =
