@@ -1,5 +1,5 @@
 -- Sets that are joined, word by word.
-use Rattle.std.proofs.Common.{◌≡◌, ℕ, ◌+◌, ◌-◌, ◌*◌, ◌/◌, ◌%◌, ◌<◌, ◌≤◌, ◌⊎◌, List, [], ◌∷◌, length, take, drop, Bool, eqb, get_or, set, max, ap, ◌∙◌, sym, arith, refl, inl, inr}
+use Rattle.std.proofs.Common.{◌≡◌, ℕ, ◌+◌, ◌-◌, ◌*◌, ◌/◌, ◌<◌, ◌≤◌, ◌⊎◌, List, [], ◌∷◌, length, take, drop, Bool, eqb, get_or, set, max, ap, ◌∙◌, sym, arith, refl}
 use Rattle.std.specs.Prelude.{bit_or, nat_lt, nat_le, ◌||◌, ◌&&◌}
 use Rattle.std.specs.Int.{from_le_bytes, w64}
 use Rattle.std.proofs.lemmas.Bool.{cases_lt}
@@ -31,11 +31,7 @@ use Rattle.arena_bits.proofs.SetLemmas.{becomes_set}
 -- one word
 joins_word : (old others : List ℕ) (i : ℕ) → i < length old
     → JoinsWords i (i + 1) old others (set old i (bit_or (get_or old i 0) (get_or others i 0)))
-joins_word old others i within = record {
-  joined = λ k least small. let at : k ≡ i = omega arith in rw at (get_or-set_same old i _ 0 within);
-  before = λ k small. get_or-set_other old i k _ 0 (omega arith);
-  behind = λ k least. get_or-set_other old i k _ 0 (omega arith);
-}
+joins_word old others i within = grind (arith, nat_tests, get_or-set_same, get_or-set_other)
 
 -- words that are replaced by those joined
 joins_over : (old others list : List ℕ) (i n : ℕ) → length list ≡ n → i + n ≤ length old
@@ -53,14 +49,7 @@ joins_over old others list i n long within each = record {
 -- some words, and then those after them
 joins_then : (from mid to : ℕ) (old now others new : List ℕ) → from ≤ mid → mid ≤ to → JoinsWords from mid old others now
     → JoinsWords mid to now others new → JoinsWords from to old others new
-joins_then from mid to old now others new order more one two = record {
-  joined = λ k least small. elim (cases_lt k mid) [
-    | inl front ↦ two.before k front ∙ one.joined k least front
-    | inr rest ↦ two.joined k rest small ∙ ap (λ word. bit_or word (get_or others k 0)) (one.behind k rest)
-  ];
-  before = λ k small. two.before k (omega arith) ∙ one.before k small;
-  behind = λ k least. two.behind k least ∙ one.behind k (omega arith);
-}
+joins_then from mid to old now others new order more one two = grind (arith, nat_tests, cases_lt, get_or)
 
 -- Of n words one more is joined in its place.
 pub joins_more : (n : ℕ) (old now row word : List ℕ) (i : ℕ) → i < n → (length now ≡ n * 8)
@@ -91,17 +80,7 @@ other_bit m from to a b out = grind (arith, nat_tests)
 joins_bits : (from to : ℕ) (old others new : List ℕ) → JoinsWords from to old others new → (n : ℕ)
     → bits_of new n ≡ (bits_of old n || (nat_le from (n / 64) && (nat_lt (n / 64) to && bits_of others n)))
 unfolding bits_of
-joins_bits from to old others new joins n = elim (cases_lt (n / 64) from) [
-  | inl front ↦ rw (joins.before (n / 64) front) (other_bit (n / 64) from to _ _ (inl front))
-  | inr least ↦ elim (cases_lt (n / 64) to) [
-    | inl small ↦
-        let mine = get_or old (n / 64) 0 in
-        let theirs = get_or others (n / 64) 0 in
-        rw (joins.joined (n / 64) least small, bit_at_or mine theirs (n % 64))
-        (row_bit (n / 64) from to _ _ least small (bit_at-lt mine (n % 64)) (bit_at-lt theirs (n % 64)))
-    | inr rest ↦ rw (joins.behind (n / 64) rest) (other_bit (n / 64) from to _ _ (inr rest))
-  ]
-]
+joins_bits from to old others new joins n = grind (arith, nat_tests, cases_lt, other_bit, get_or, bit_at_or, row_bit, bit_at-lt)
 
 -- If the words below an index were joined, and then a row that starts there or before, those below its end are.
 more_bits : (i from to n : ℕ) (a b : Bool) → from ≤ i → i ≤ to
@@ -166,18 +145,7 @@ all_there n limit is_in = grind (arith, nat_tests)
 
 pub joined_itself : (view : View) (s other : BitSet) (limit : ℕ) → IsSetIn view.memory s → IsSetIn view.memory other
     → other.words.block ≡ s.words.block → BecomesSet view view s (joined (set_of view.memory s) (below limit (set_of view.memory other)))
-joined_itself view s other limit held other_held one =
-    let m = view.memory in
-    let count : other.words.length ≡ s.words.length = omega (arith, held.place.of_size, other_held.place.of_size, ap (λ b. b.size) one) in
-    let same : set_of m other ≡ set_of m s = ap (λ b. bits_of (words other.words.length (bytes_of m b))) one
-    ∙ ap (λ n. bits_of (words n (bytes_of m s.words.block))) count in
-    let is : set_of m s ≡ joined (set_of m s) (below limit (set_of m s)) = λ p n. all_there n limit (set_of m s n) p in
-    record {
-      held = held;
-      set_is = is ∙ ap (λ set. joined (set_of m s) (below limit set)) (sym same);
-      places = record { state = refl; statistics = refl; source = refl };
-      frame = frame_reflexive m (s.words.block ∷ []);
-    }
+joined_itself view s other limit held other_held one = grind (arith, nat_tests, words, all_there, set, frame_reflexive)
 
 module _ (old mid new : View) (s other : BitSet) (i : ℕ) (now : JoinsFirst old mid s other i)
     (apart : AreBlocksApart other.words.block s.words.block) (source : new.source ≡ mid.source) where

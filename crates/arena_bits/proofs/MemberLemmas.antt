@@ -1,4 +1,5 @@
 -- The numbers of a set in order.
+use Rattle.std.proofs.lemmas.Bool.Decides.{nat_tests}
 use Rattle.std.proofs.Common.{◌≡◌, ℕ, zero, suc, ◌+◌, ◌-◌, ◌<◌, ◌≤◌, List, [], ◌∷◌, ◌++◌, length, true, false, IsTrue, ap, arith, refl}
 use Rattle.std.proofs.lemmas.List.FromFn.{length-range_with_len, get_or-range_with_len}
 use Rattle.std.proofs.lemmas.List.Kept.{IsStrictlyIncreasing-filter}
@@ -33,9 +34,7 @@ members_first set from to h is_in = let more : to - from ≡ suc (to - (from + 1
 -- There are no more of them than numbers in the range.
 pub length-members : (set : Set) (from to : ℕ) → length (members set from to) ≤ to - from
 unfolding members
-length-members set from to =
-    let all = range_with_len from (to - from) in
-    omega (arith, length-filter set all, count_by-le-length set all, length-range_with_len from (to - from))
+length-members set from to = grind (arith, nat_tests, length-filter, count_by-le-length, length-range_with_len)
 
 -- ---- What they are
 

@@ -1,7 +1,7 @@
 -- Printed forms: the bytes of a set, and their digits.
 use Rattle.std.proofs.Common.{◌≡◌, ℕ, zero, suc, ◌+◌, ◌-◌, ◌*◌, ◌/◌, ◌%◌, ◌^◌, ◌<◌, ◌≤◌, List, [], ◌∷◌, ◌++◌, length, false, not, eqb, cond, get_or, take, drop, ap, ◌∙◌, sym, arith, refl, append_assoc, add-one, zero-add, w8, w64}
 use Rattle.std.specs.Prelude.{bit_and, ◌||◌}
-use Rattle.std.specs.Int.{bit_at, byte_at, bytes_low_first, from_le_bytes, trailing_zeros}
+use Rattle.std.specs.Int.{bit_at, byte_at, bytes_low_first, from_le_bytes}
 use Rattle.std.specs.List.{list_any, range_with_len}
 use Rattle.std.proofs.lemmas.Bool.Decides.{nat_tests}
 use Rattle.std.proofs.lemmas.Grind.{common_steps}
@@ -25,8 +25,7 @@ powers (suc k) = let e : 8 * suc k ≡ 8 * k + 8 = omega arith in rw (e, pow-add
 
 -- a byte as shifts and masks give it
 byte_is : (m n : ℕ) → byte_at m n ≡ n / 2 ^ (8 * m) % 2 ^ 8
-byte_is zero n = omega arith
-byte_is (suc m) n = ap (λ d. n / d % 256) (powers (suc m))
+byte_is m n = grind (arith, nat_tests, powers)
 
 -- A byte has eight bits of its number.
 byte_bits : (m n j : ℕ) → j < 8 → bit_at (byte_at m n) j ≡ bit_at n (8 * m + j)
@@ -53,12 +52,7 @@ word_bits own m j long small inside low =
 
 -- a byte isn't 0 if and only if it has a bit
 any_bit : (b : ℕ) → b < 256 → list_any (bits_in b) (range_with_len 0 8) ≡ not (eqb b 0)
-any_bit zero small = refl
-any_bit (suc b) small =
-    let low = bit_at-trailing_zeros w8 (suc b) (omega arith) small in
-    let at = get_or-range_with_len 0 8 (trailing_zeros w8 (suc b)) 0 low.0 ∙ zero-add (trailing_zeros w8 (suc b)) in
-    list_any_at (bits_in (suc b)) (range_with_len 0 8) (trailing_zeros w8 (suc b)) 0 low.0
-    (ap (bits_in (suc b)) at ∙ ap (λ bit. eqb bit 1) low.1) ∙ (grind (arith, nat_tests))
+any_bit b small = grind (arith, nat_tests, bit_at-trailing_zeros, w8, get_or-range_with_len, zero-add, list_any_at, eqb)
 
 -- sets that have the same numbers have the same bytes and digits
 any_same : (one other : Set) (from n : ℕ) → ((j : ℕ) → j < from + n → one j ≡ other j)
@@ -100,9 +94,7 @@ module _ (bytes : List ℕ) (small : (i : ℕ) → get_or bytes i 0 < 256) (whol
 
   -- So it isn't 0 if and only if one of them is in the set,
   byte_tested : (k : ℕ) → k < length bytes → has_byte set k ≡ not (eqb (get_or bytes k 0) 0)
-  byte_tested k within =
-      any_same (λ j. set (8 * k + j)) (bits_in (get_or bytes k 0)) 0 8 (λ j low. byte_bit k j within low)
-      ∙ any_bit (get_or bytes k 0) (small k)
+  byte_tested k within = grind (arith, nat_tests, any_same, get_or, byte_bit, any_bit)
 
   -- and its digits are theirs.
   pub byte_digits : (k : ℕ) → k < length bytes → digits (bits_in (get_or bytes k 0)) 0 8 ≡ digits set (8 * k) 8
@@ -112,9 +104,7 @@ module _ (bytes : List ℕ) (small : (i : ℕ) → get_or bytes i 0 < 256) (whol
   pub highest_is : (m : ℕ) → 0 < m → m ≤ length bytes
       → highest set m ≡ cond (not (eqb (get_or bytes (m - 1) 0) 0)) (m - 1) (highest set (m - 1))
   unfolding highest
-  highest_is m some within =
-      let next : m ≡ suc (m - 1) = omega arith in
-      ap (highest set) next ∙ ap (λ b. cond b (m - 1) (highest set (m - 1))) (byte_tested (m - 1) (omega arith))
+  highest_is m some within = grind (arith, nat_tests, cond, byte_tested)
 
 -- ---- What is printed
 

@@ -1,5 +1,6 @@
 -- A walk over words.
-use Rattle.std.proofs.Common.{◌≡◌, ℕ, ◌+◌, ◌-◌, ◌/◌, ◌%◌, ◌^◌, ◌<◌, ◌≤◌, ◌*◌, List, [], ◌∷◌, length, false, eqb, get_or, ap, ◌∙◌, sym, arith, refl, inl, inr, w64, Option, Some, None}
+use Rattle.std.proofs.lemmas.Bool.Decides.{nat_tests}
+use Rattle.std.proofs.Common.{◌≡◌, ℕ, ◌+◌, ◌-◌, ◌/◌, ◌%◌, ◌^◌, ◌<◌, ◌≤◌, ◌*◌, List, [], ◌∷◌, length, false, eqb, get_or, ap, ◌∙◌, sym, arith, inl, inr, w64, Option}
 use Rattle.std.proofs.lemmas.Bool.{cases_eq, cases_lt}
 use Rattle.std.proofs.lemmas.Nat.{trailing_le}
 use Rattle.std.proofs.lemmas.Nat.Bits.{bit_at-zero, bit_at-trailing_zeros, bit_at_clear_same, bit_at_clear_other}
@@ -20,33 +21,19 @@ module _ (words : List ℕ) (capacity : ℕ) where
   pub scan_word : (base word : ℕ) → word ≡ get_or words (base / 64) 0 → base % 64 ≡ 0 → base ≤ capacity
       → IsScan words capacity (record { base = base; rest = word; front = base })
   unfolding bits_of
-  scan_word base word is aligned bounded = record {
-    aligned = aligned;
-    order = omega arith;
-    within = omega arith;
-    bounded = bounded;
-    passed = λ j low. absurd (omega arith);
-    rest = λ j small low.
-        let at : (base + j) / 64 ≡ base / 64 = omega arith in
-        let bit : (base + j) % 64 ≡ j = omega arith in
-        rw (at, bit, is) refl;
-  }
+  scan_word base word is aligned bounded = grind (arith, nat_tests)
 
   module _ (s : Scan) (scan : IsScan words capacity s) where
     -- Numbers of the word whose bits are 0 aren't in the set.
     not_here : (to : ℕ) → to ≤ s.base + 64 → ((j : ℕ) → s.base + j < to → bit_at s.rest j ≡ 0)
         → (n : ℕ) → s.front ≤ n → n < to → bits_of words n ≡ false
-    not_here to within clear n low high =
-        let at : s.base + (n - s.base) ≡ n = omega (arith, scan.order) in
-        rw at at (sym (scan.rest (n - s.base) (omega (arith, scan.order)) (omega (arith, scan.order)))
-        ∙ ap (λ b. eqb b 1) (clear (n - s.base) (omega (arith, scan.order))))
+    unfolding bits_of
+    not_here to within clear n low high = grind (arith, nat_tests, eqb)
 
     -- Nothing is left in the word.
     pub scan_skip : s.rest ≡ 0 → s.base + 64 ≤ capacity
         → members (bits_of words) (s.base + 64) capacity ≡ members (bits_of words) s.front capacity
-    scan_skip none more =
-        sym (members_skip (bits_of words) s.front (s.base + 64) capacity scan.within more
-        (not_here (s.base + 64) (omega arith) (λ j low. rw none (bit_at-zero j))))
+    scan_skip none more = grind (arith, nat_tests, members_skip, not_here, bit_at-zero)
 
     module _ (fits : s.rest < 2 ^ 64) (last : s.rest ≡ 0 → capacity ≤ s.base + 64) where
       abbrev place : ℕ
@@ -72,14 +59,7 @@ module _ (words : List ℕ) (capacity : ℕ) where
             (not_here capacity (omega (arith, trailing_le 64 s.rest)) (λ j low. lowest.0 j (omega arith)))
 
         pub scan_over : IsScan words capacity (record { base = s.base; rest = s.rest; front = capacity })
-        scan_over = record {
-          aligned = scan.aligned;
-          order = omega (arith, scan.order, scan.bounded);
-          within = omega (arith, trailing_le 64 s.rest);
-          bounded = omega arith;
-          passed = λ j low. lowest.0 j (omega arith);
-          rest = λ j small low. scan.rest j small (omega (arith, scan.bounded));
-        }
+        scan_over = grind (arith, nat_tests, trailing_le, lowest)
 
       -- The lowest bit is below the capacity: it is the next number.
       module _ (below : trailing_zeros w64 s.rest < capacity - s.base) where
@@ -120,8 +100,7 @@ module _ (words : List ℕ) (capacity : ℕ) where
 pub walk_yields : (set : Set) (front to : ℕ) (r : Option ℕ) (after : ℕ) → MatchOption r (after ≡ to) (λ n. after ≡ n + 1)
     → MatchOption r (members set front to ≡ []) (λ n. members set front to ≡ n ∷ members set (n + 1) to)
     → YieldsFirst (λ (xs : List ℕ). xs) (members set front to) r (members set after to)
-walk_yields set front to None after at first = (first, rw at (members_none set to to (λ n low high. absurd (omega arith))))
-walk_yields set front to (Some n) after at first = first ∙ ap (λ m. n ∷ members set m to) (sym at)
+walk_yields set front to r after at first = grind (arith, nat_tests, members_none)
 
 -- All calls of `next` together give what is left, in order.
 pub walk_gives_all : (walk : Walk) → YieldsList Goes (λ n. n) walk walk.left

@@ -1,4 +1,5 @@
 -- Sets in blocks: what becomes of them when their bytes are written.
+use Rattle.std.proofs.lemmas.Bool.Decides.{nat_tests}
 use Rattle.std.proofs.Common.{◌≡◌, ℕ, ◌*◌, ◌/◌, ◌<◌, List, length, set, get_or, ap, ◌∙◌, arith}
 use Rattle.arena_chunks.specs.Source.{View}
 use Rattle.arena_chunks.specs.BlockCalls.{WritesBlock, EditsBlock}
@@ -14,15 +15,7 @@ use Rattle.arena_bits.proofs.WordLemmas.{length-words, word_changed}
 pub becomes_set : (old new : View) (s : BitSet) (set : Set) (at : ℕ) (list : List ℕ)
     → WritesBlock old.memory new.memory s.words.block at list → new.source ≡ old.source → IsSetIn old.memory s
     → set_of new.memory s ≡ set → BecomesSet old new s set
-becomes_set old new s set at list writes source held is = record {
-  held = record {
-    place = written_held old.memory new.memory _ 8 at s.words.block s.words.block list writes held.place;
-    count = held.count;
-  };
-  set_is = is;
-  places = record { state = writes.state; statistics = writes.statistics; source = source };
-  frame = writes.frame;
-}
+becomes_set old new s set at list writes source held is = grind (arith, nat_tests, written_held)
 
 -- One word is changed in place: the one with a number's bit.
 pub word_edited : (old new : View) (s : BitSet) (n : ℕ) (f : ℕ → ℕ) (changed : Set) → IsSetIn old.memory s → n < 64 * s.words.length

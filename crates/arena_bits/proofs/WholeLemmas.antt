@@ -1,5 +1,5 @@
 -- Sets as wholes: new ones, and those without a number.
-use Rattle.std.proofs.Common.{◌≡◌, ℕ, ◌+◌, ◌-◌, ◌*◌, ◌/◌, ◌%◌, ◌^◌, ◌<◌, ◌≤◌, List, [], ◌∷◌, length, replicate, get_or, Bool, true, ◌&&◌, nat_lt, ap, ◌∙◌, sym, subst, arith, refl, false, eqb, inl, inr, IsTrue, Result, Ok, Err, w64}
+use Rattle.std.proofs.Common.{◌≡◌, ℕ, ◌+◌, ◌-◌, ◌*◌, ◌/◌, ◌%◌, ◌^◌, ◌<◌, ◌≤◌, List, [], ◌∷◌, length, replicate, get_or, Bool, true, ◌&&◌, nat_lt, ap, ◌∙◌, sym, subst, arith, refl, false, eqb, inl, inr, IsTrue, Result, Ok, w64}
 use Rattle.std.specs.Int.{trailing_zeros}
 use Rattle.std.proofs.lemmas.Bool.{cases_lt}
 use Rattle.std.proofs.lemmas.Bool.Decides.{nat_tests}
@@ -16,7 +16,6 @@ use Rattle.arena_chunks.proofs.Layers.{length-bytes, wrote_whole, places_written
 use Rattle.arena_items.specs.Values.{bytes_of}
 use Rattle.arena_items.specs.Room.{RoomAnswer, TakesRoom, SamePlaces}
 use Rattle.arena_items.specs.declared.room.AllocError.{AllocError}
-use Rattle.arena_items.specs.declared.room.AllocError.TheVariants.{AllocErr, CapacityOverflow, OutOfMemory}
 use Rattle.arena_items.proofs.Layers.{placed_held, written_held}
 use Rattle.arena_bits.specs.Bits.{Set, bits_of, below, nothing, words_for}
 use Rattle.arena_bits.specs.Sets.{IsSetIn, words_of, set_of, BecomesSet, PlacesSet}
@@ -38,8 +37,7 @@ bits_none ws zeros = λ p n. ap (λ b. eqb b 1) (ap (λ w. w / 2 ^ (n % 64) % 2)
 -- No number past the last word is in a set.
 pub bits_past : (ws : List ℕ) (n : ℕ) → 64 * length ws ≤ n → bits_of ws n ≡ false
 unfolding bits_of
-bits_past ws n past =
-    ap (λ w. eqb (w / 2 ^ (n % 64) % 2) 1) (get_or_past ws (n / 64) 0 (omega arith)) ∙ ap (λ b. eqb b 1) (bit_at-zero (n % 64))
+bits_past ws n past = grind (arith, nat_tests, eqb, get_or_past, bit_at-zero)
 
 -- So all of a set is below the end of its words.
 pub all_below : (m : Memory) (s : BitSet) → below (64 * s.words.length) (set_of m s) ≡ set_of m s
@@ -77,9 +75,7 @@ bytes_count m s held = omega (arith, length-bytes (image m) s.words.block.addr s
 
 -- which are the words of its block's bytes.
 pub words_read : (m : Memory) (s : BitSet) → IsSetIn m s → words_in (bytes_of m s.words.block) ≡ words_of m s
-words_read m s held =
-    let all : length (bytes_of m s.words.block) / 8 ≡ s.words.length = omega (arith, bytes_count m s held) in
-    ap (λ n. words n (bytes_of m s.words.block)) all
+words_read m s held = grind (arith, nat_tests, bytes_count, words)
 
 -- ---- Blocks that are cleared
 
@@ -87,10 +83,7 @@ words_read m s held =
 pub cleared : (old new : Memory) (b : Block) (n size : ℕ) → b.size ≡ n * 8 → size ≡ b.size
     → EditsBlock old new b 0 size (λ before after. after ≡ replicate (length before) 0) → bits_of (words n (bytes_of new b)) ≡ nothing
 cleared old new b n size sized all edits =
-    let zeros : edits.list ≡ replicate (n * 8) 0 =
-    edits.related ∙ ap (λ k. replicate k 0) (length-bytes (image old) (b.addr + 0) size ∙ all ∙ sized) in
-    rw (wrote_whole old new b edits.list edits.writes (ap length zeros ∙ length-replicate (n * 8) 0 ∙ sym sized), zeros)
-    (bits_none (words n (replicate (n * 8) 0)) (zero_words n))
+    grind (arith, nat_tests, length-bytes, wrote_whole, length-replicate, bits_none, words, zero_words)
 
 -- So a set becomes empty.
 pub becomes_empty : (old new : View) (s : BitSet) → IsSetIn old.memory s → new.source ≡ old.source
@@ -109,10 +102,7 @@ words_layout n few = grind (arith, nat_tests)
 -- and room for them is taken as a block is placed
 pub room_placed : (old new : View) (b : Block) (size align : ℕ) (result : Result Block AllocError)
     → RoomAnswer (λ b. b) result (TakesRoom old new b 0 size align) → RoomAnswer (λ b. b) result (PlacesBlock old new size align)
-room_placed old new b size align (Ok x) takes = takes.placed refl
-room_placed old new b size align (Err (AllocErr refused)) takes = takes.placed refl
-room_placed old new b size align (Err OutOfMemory) takes = takes.placed refl
-room_placed old new b size align (Err CapacityOverflow) takes = absurd takes
+room_placed old new b size align result takes = grind (arith, nat_tests)
 
 -- A block that was placed and cleared is a new set.
 pub new_set : (old mid new : View) (bits n : ℕ) (b : Block) → n ≡ words_for bits → PlacesBlock old mid (n * 8) 8 (Placed b)
@@ -132,22 +122,7 @@ new_set old mid new bits n b enough places edits source =
 -- A block that was placed and then filled was placed as filled: both calls are one.
 placed_still : (old mid new : View) (size align : ℕ) (b : Block) → PlacesBlock old mid size align (Placed b) → SamePlaces mid new
     → Frame old.memory new.memory [] (b ∷ []) → PlacesBlock old new size align (Placed b)
-placed_still old mid new size align b places same frame =
-    let valid = places.1.valid in
-    let placed = places.1.outcome in (
-      places.0,
-      record {
-        valid = record { entry = valid.entry; exit = rw same.state valid.exit };
-        outcome = record {
-          step = rw same.state placed.step;
-          asked = rw same.source placed.asked;
-          of_layout = rw same.state placed.of_layout;
-          aligned = rw same.state placed.aligned;
-          statistics = same.statistics ∙ placed.statistics;
-          frame = frame;
-        };
-      },
-    )
+placed_still old mid new size align b places same frame = grind (arith, nat_tests)
 
 pub filled : (old mid new : View) (bits : ℕ) (first set : Set) (s : BitSet) → PlacesSet old mid bits first (Ok s)
     → BecomesSet mid new s set → PlacesSet old new bits set (Ok s)

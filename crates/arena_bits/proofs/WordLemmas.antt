@@ -1,5 +1,6 @@
 -- Words in blocks: how they are read, and what becomes of them.
-use Rattle.std.proofs.Common.{◌≡◌, ℕ, ◌+◌, ◌-◌, ◌*◌, ◌^◌, ◌<◌, ◌≤◌, List, length, set, take, drop, get_or, ap, ◌∙◌, sym, arith}
+use Rattle.std.proofs.lemmas.Bool.Decides.{nat_tests}
+use Rattle.std.proofs.Common.{◌≡◌, ℕ, ◌+◌, ◌-◌, ◌*◌, ◌^◌, ◌<◌, ◌≤◌, List, length, set, take, drop, get_or, ap, ◌∙◌, arith}
 use Rattle.std.specs.Prelude.{bit_or}
 use Rattle.std.proofs.lemmas.Option.{get_or_from_slice_get}
 use Rattle.std.proofs.lemmas.Nat.{from_le_bytes-to_le_bytes_8, or_lt}
@@ -28,9 +29,7 @@ word-is n bytes i below = get_or_from_slice_get (words n bytes) i _ 0 (elements-
 -- So is one that was read,
 pub word_read : (n : ℕ) (bytes : List ℕ) (i x : ℕ) → x ≡ from_le_bytes w64 (take (i * 8 + 8 - i * 8) (drop (i * 8) bytes)) → i < n
     → x ≡ get_or (words n bytes) i 0
-word_read n bytes i x read below =
-    let eight : i * 8 + 8 - i * 8 ≡ 8 = omega arith in
-    read ∙ ap (λ k. from_le_bytes w64 (take k (drop (i * 8) bytes))) eight ∙ sym (word-is n bytes i below)
+word_read n bytes i x read below = grind (arith, nat_tests, word-is)
 
 -- and one of a range of bytes.
 pub word_there : (f : ℕ → ℕ) (addr size n i : ℕ) → i < n → n * 8 ≤ size
@@ -45,18 +44,13 @@ or_word a b h k = or_lt 64 a b h k
 -- A word is overwritten by a function of it.
 pub changes_word : (f : ℕ → ℕ) (old new : List ℕ) (word : ℕ) → word ≡ from_le_bytes w64 old
     → new ≡ to_le_bytes w64 (f word) → f word < 2 ^ 64 → ChangesWord f old new
-changes_word f old new word was is fits = record {
-  length = ap length is;
-  word = ap (from_le_bytes w64) is ∙ from_le_bytes-to_le_bytes_8 (f word) fits ∙ ap f was;
-}
+changes_word f old new word was is fits = grind (arith, nat_tests, from_le_bytes-to_le_bytes_8)
 
 -- A word that is changed in place is replaced by the function's value.
 pub word_put : (n : ℕ) (bytes : List ℕ) (i : ℕ) (f : ℕ → ℕ) (word : List ℕ) → i < n → n * 8 ≤ length bytes
     → ChangesWord f (take 8 (drop (i * 8) bytes)) word
     → words n (splice bytes (i * 8) word) ≡ set (words n bytes) i (f (get_or (words n bytes) i 0))
-word_put n bytes i f word below room changes =
-    elements-set 8 (from_le_bytes w64) n bytes i word below room changes.length
-    ∙ ap (set (words n bytes) i) (changes.word ∙ ap f (sym (word-is n bytes i below)))
+word_put n bytes i f word below room changes = grind (arith, nat_tests, elements-set, set, word-is)
 
 -- So it is in a block.
 pub word_changed : (old new : Memory) (b : Block) (n i : ℕ) (f : ℕ → ℕ) → EditsBlock old new b (i * 8) 8 (ChangesWord f) → i < n
