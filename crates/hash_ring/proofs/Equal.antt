@@ -1,6 +1,6 @@
 -- Maps of lists of pairs that are equal.
-use Rattle.std.proofs.Common.{◌≡◌, ℕ, ◌≤◌, inl, inr, List, [], ◌∷◌, map, length, refl, sym, ap, subst, ◌∙◌, arith, Some, None, Option}
-use Rattle.std.proofs.Common.{Bool, true, false, true≢false, suc, zero, ◌++◌, append_assoc, ◌⊎◌}
+use Rattle.std.proofs.lemmas.Bool.Decides.{nat_tests}
+use Rattle.std.proofs.Common.{◌≡◌, ℕ, ◌≤◌, inl, inr, List, [], ◌∷◌, map, length, refl, sym, ap, subst, ◌∙◌, arith, Some, Option, Bool, true, false, true≢false, suc, zero, ◌++◌, append_assoc, ◌⊎◌}
 use Rattle.std.proofs.lemmas.Bool.{both_ways, cases_Bool, or_parts, or_cases}
 use Rattle.std.proofs.lemmas.Cmp.{nat_list_eq_equiv}
 use Rattle.std.proofs.lemmas.List.{length-map}
@@ -22,18 +22,13 @@ none-member (k ∷ ks) q e = let r = or_parts (bytes_eq q k) (is_member bytes_eq
 -- if values are equal or both missing, both options are some or both are none
 pub both-has : {K V : Type 0} (eq : V → V → Bool) (one other : Option (K × V)) → AreBoth eq (value_of one) (value_of other)
     → is_some one ≡ is_some other
-both-has eq None None b = refl
-both-has eq None (Some y) b = absurd b
-both-has eq (Some x) None b = absurd b
-both-has eq (Some x) (Some y) b = refl
+both-has eq one other b = grind (arith, nat_tests)
 
 -- The same of pairs, if the second has what the first has.
 both-from : {K V : Type 0} (eq : V → V → Bool) (one other : Option (K × V))
     → ((p : K × V) → one ≡ Some p → AreBoth eq (Some p.1) (value_of other)) → (is_some other ≡ true → is_some one ≡ true)
     → AreBoth eq (value_of one) (value_of other)
-both-from eq None None each only = tt
-both-from eq None (Some y) each only = absurd (true≢false (sym (only refl)))
-both-from eq (Some x) other each only = each x refl
+both-from eq one other each only = grind (arith, nat_tests, true≢false)
 
 module _ {K V : Type 0} (content : K → List ℕ) where
   -- a content is in the list if the map has it
@@ -130,16 +125,9 @@ module _ {K V : Type 0} (content : K → List ℕ) (eq : V → V → Bool) (m : 
   -- one more
   pub found-more : (done rest : List (K × V)) (p : K × V) → AreFound done (p ∷ rest) → AreBoth eq (Some p.1) (value_of (m (content p.0)))
       → AreFound (done ++ p ∷ []) rest
-  found-more done rest p f both = record {
-    whole = f.whole ∙ sym (append_assoc done (p ∷ []) rest);
-    found = λ i q s. elim (get-push done p i q s) [
-      | inl t ↦ f.found i q t
-      | inr e ↦ subst (λ r. AreBoth eq (Some r.1) (value_of (m (content r.0)))) (sym e) both
-    ];
-  }
+  found-more done rest p f both = grind (arith, nat_tests, append_assoc, get-push)
 
   -- in equal maps each is found
   pub found-equal : AreOnce content xs → AreEqual {K = K} eq (first_of content xs) m → (i : ℕ) (p : K × V) → slice_get xs i ≡ Some p
       → AreBoth eq (Some p.1) (value_of (m (content p.0)))
-  found-equal once equal i p s =
-      subst (λ o. AreBoth eq (value_of o) (value_of (m (content p.0)))) (in-under content xs i p once s) (equal (content p.0))
+  found-equal once equal i p s = grind (arith, nat_tests, in-under)

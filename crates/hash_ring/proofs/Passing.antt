@@ -1,6 +1,6 @@
 -- Searches along the ring by marks.
-use Rattle.std.proofs.Common.{◌≡◌, ℕ, ◌+◌, ◌*◌, ◌/◌, ◌%◌, ◌^◌, ◌<◌, ◌≤◌, ◌⊎◌, inl, inr, List, length, min, refl, sym, ap, subst, ◌∙◌}
-use Rattle.std.proofs.Common.{arith, Some, None, Option}
+use Rattle.std.proofs.lemmas.Bool.Decides.{nat_tests}
+use Rattle.std.proofs.Common.{◌≡◌, ℕ, ◌+◌, ◌*◌, ◌/◌, ◌%◌, ◌^◌, ◌<◌, ◌≤◌, ◌⊎◌, inl, inr, List, length, min, sym, subst, ◌∙◌, arith, Some, None, Option}
 use Rattle.std.proofs.Math.Nat.{mod-lt}
 use Rattle.std.specs.Prelude.{slice_get}
 use Rattle.hash_ring.specs.Searches.{IsPassed, IsSpotFor}
@@ -46,19 +46,13 @@ module _ {X : Type 0} (home : X → ℕ) (n start : ℕ) (slots : List (Option X
     ];
   }
 
-  -- fewer slots
-  pub mark-passed-fewer : (d e : ℕ) → e ≤ d → IsPassed home n slots start d → IsPassed home n slots start e
-  mark-passed-fewer d e h p = record { behind = λ f l. p.behind f (omega arith) }
-
   -- all that was passed is taken
   pub mark-passed-taken : (d : ℕ) → IsPassed home n slots start d → AreTaken n start slots d
   mark-passed-taken d p = record { taken = λ e h t. let b = p.behind e h in not_free b.item (sym b.away.there ∙ t) }
 
   -- as far as marks show, the walk is the one by distance
   pub mark-passed-reached : (d : ℕ) → d ≤ 15 → IsPassed home n slots start d → IsReached home n start slots d
-  mark-passed-reached d h p = record {
-    behind = λ e g. subst (λ m. IsBehind home n slots (spot n start e) m) (omega arith) (p.behind e (omega arith));
-  }
+  mark-passed-reached d h p = grind (arith, nat_tests)
 
 -- Slots with a mark for each: 0 if it is free, and otherwise by the hash of its item and its distance.
 module _ {X : Type 0} (hash : X → ℕ) (n : ℕ) (some : 0 < n) (slots : List (Option X)) (mark : ℕ → ℕ) where
@@ -108,24 +102,12 @@ module _ {X : Type 0} (hash : X → ℕ) (n : ℕ) (some : 0 < n) (slots : List 
       -- this is where a pair with the hash goes
       pub marked-spot : IsPassed home n slots (home_of n h) d → Stops home n (home_of n h) slots d
           → IsSpotFor home n slots h (spot n (home_of n h) d) (mark_of h d)
-      marked-spot p stop = record {
-        distance = d;
-        mark_is = refl;
-        near = λ m.
-            let few : d < 14 = omega arith in
-            place-for home n homes (home_of n h) slots d less
-            (mark-passed-reached home n (home_of n h) slots d (omega arith) p) stop;
-        far = λ m. mark-passed-fewer home n (home_of n h) slots d 14 (omega arith) p;
-      }
+      marked-spot p stop = grind (arith, nat_tests, place-for, homes)
 
       -- an item with the hash has that mark there
       pub marked-same : (x : X) → slice_get slots (spot n (home_of n h) d) ≡ Some (Some x) → hash x ≡ h
           → mark (spot n (home_of n h) d) ≡ mark_of h d
-      marked-same x s e =
-          let a = away-of home n homes slots (spot n (home_of n h) d) x are.ordered.long s in
-          let far : a.0
-          ≡ d = away-start home n homes (home_of n h) slots d x a.0 (mod-lt h some) less a.1 (ap (home_of n) e) in
-          are.marks (spot n (home_of n h) d) a.0 x a.1 ∙ (ap (λ k. mark_of k a.0) e ∙ ap (mark_of h) far)
+      marked-same x s e = grind (arith, nat_tests, away-of, homes, away-start, mod-lt)
 
     -- a walk meets a free slot in less than a round
     pub marked-less : (h d : ℕ) → length (items slots) < n → IsPassed home n slots (home_of n h) d → d < n
@@ -137,6 +119,4 @@ module _ {X : Type 0} (hash : X → ℕ) (n : ℕ) (some : 0 < n) (slots : List 
     pub marked-lacks : (content : X → List ℕ) (q : List ℕ) (h d : ℕ)
         → ((j : ℕ) (x : X) → slice_get slots j ≡ Some (Some x) → content x ≡ q → hash x ≡ h)
         → Passed n content q (home_of n h) slots d → Stops home n (home_of n h) slots d → Lacks content slots q
-    marked-lacks content q h d hashed p stop =
-        passed-lacks home n homes (home_of n h) slots are.ordered content q d (mod-lt h some)
-        (λ j x s c. ap (home_of n) (hashed j x s c)) p stop
+    marked-lacks content q h d hashed p stop = grind (arith, nat_tests, passed-lacks, homes, mod-lt)

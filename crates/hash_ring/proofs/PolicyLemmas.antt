@@ -11,10 +11,7 @@ use Rattle.std.proofs.lemmas.Bool.{cases_lt}
 
 -- A power of two below another is at most its half.
 pub power-below : (n k : ℕ) → IsPowerOfTwo n → n < 2 ^ suc k → n ≤ 2 ^ k
-power-below n k is less = elim (cases_lt k is.0) [
-  | inl above ↦ let more : 2 ^ suc k ≤ 2 ^ is.0 = pow-le-pow_right (omega arith) above in absurd (omega (arith, is.1))
-  | inr within ↦ let most : 2 ^ is.0 ≤ 2 ^ k = pow-le-pow_right (omega arith) within in omega (arith, is.1)
-]
+power-below n k is less = grind (arith, nat_tests, cases_lt, pow-le-pow_right)
 
 -- A power of two from eight on is a multiple of eight.
 pub power-eights : (n : ℕ) → IsPowerOfTwo n → 8 ≤ n → (m : ℕ) × (n ≡ 8 * m) × (1 ≤ m)
@@ -50,10 +47,7 @@ next-ring slots len ring full few = elim ring [
 
 -- A table without room is full to its limit, and the next one has room.
 pub next-room : (slots len : ℕ) → (slots ≡ 0) ⊎ IsRing slots → len ≤ limit slots → len < most_pairs → len + 1 ≤ limit (next_slots slots)
-next-room slots len ring within few = elim ring [
-  | inl none ↦ rw (next-zero slots none) (omega arith)
-  | inr is ↦ rw (next-some slots (omega (arith, is.1))) (omega (arith, is.1))
-]
+next-room slots len ring within few = grind (arith, nat_tests, next-zero, next-some)
 
 -- ---- Bytes
 
@@ -128,6 +122,4 @@ credit-none u slots = grind arith
 
 -- a table for n pairs, with them in it, has at most half as much saved up
 pub full-credit : (u pairs slots : ℕ) → IsSlotsFor pairs slots → 2 * credit u slots pairs ≤ u * pairs
-full-credit u pairs slots is =
-    let past : 2 * (pairs - (slots / 4 + 1)) ≤ pairs = omega (arith, is.1) in
-    omega (arith, mul-le-mul_left u past)
+full-credit u pairs slots is = grind (arith, nat_tests, mul-le-mul_left)

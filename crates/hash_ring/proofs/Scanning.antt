@@ -1,6 +1,6 @@
 -- A walk over slots, sixty-four marks at a time.
-use Rattle.std.proofs.Common.{◌≡◌, ℕ, suc, ◌+◌, ◌-◌, ◌%◌, ◌^◌, ◌<◌, ◌≤◌, ◌≢◌, ◌↔◌, inl, inr, List, [], ◌∷◌, take, drop, length, eqb}
-use Rattle.std.proofs.Common.{sym, ap, subst, ◌∙◌, arith, w64, bit_and, Some, None, Option, zero, refl}
+use Rattle.std.proofs.lemmas.Bool.Decides.{nat_tests}
+use Rattle.std.proofs.Common.{◌≡◌, ℕ, suc, ◌+◌, ◌-◌, ◌%◌, ◌^◌, ◌<◌, ◌≤◌, ◌≢◌, ◌↔◌, inl, inr, List, [], ◌∷◌, take, drop, length, eqb, sym, ap, subst, ◌∙◌, arith, w64, bit_and, Some, None, Option, zero, refl}
 use Rattle.std.proofs.lemmas.Bool.{cases_eq, cases_lt, eq-eqb, ne_eqb, cond-true, cond-false}
 use Rattle.std.proofs.lemmas.List.{get_or-take, get_or_past, drop_all}
 use Rattle.std.proofs.lemmas.Nat.{and_le_l, trailing_le}
@@ -18,12 +18,7 @@ use Rattle.hash_ring.proofs.Places.{same_item, not_free}
 -- the walk is at its lowest bit, or at the end of its sixty-four if it has none
 pub front-is : (s : Scan) → front_of s ≡ s.base + trailing_zeros w64 s.rest
 unfolding count_trailing_zeros
-front-is s = elim (cases_eq s.rest 0) [
-  | inl e ↦
-      cond-true (eqb s.rest 0) (s.base + 64) (s.base + trailing_zeros w64 s.rest) (eq-eqb s.rest 0 e)
-      ∙ ap (λ w. s.base + trailing_zeros w64 w) (sym e)
-  | inr m ↦ cond-false (eqb s.rest 0) (s.base + 64) (s.base + trailing_zeros w64 s.rest) (ne_eqb s.rest 0 m)
-]
+front-is s = grind (arith, nat_tests, cases_eq, cond-true, eqb, w64, eq-eqb, cond-false, ne_eqb)
 
 -- a walk over many comes to whole sixty-fours
 pub group-whole : (n base : ℕ) → IsByGroups n → base % 64 ≡ 0 → base + 64 < n → base + 64 + 64 ≤ n
@@ -31,8 +26,7 @@ group-whole n base groups aligned more = elim groups [ inl few ↦ omega arith |
 
 -- the marks of a front are those of all bytes
 pub taken-take : (n : ℕ) (bytes : List ℕ) (base bits : ℕ) → base + 64 ≤ n → AreTaken bytes base bits → AreTaken (take n bytes) base bits
-taken-take n bytes base bits h taken j k =
-    subst (λ m. (bit_at bits j ≡ 1) ↔ (m ≢ 0)) (sym (get_or-take n bytes (base + j) 0 (omega arith))) (taken j k)
+taken-take n bytes base bits h taken j k = grind (arith, nat_tests, get_or-take)
 
 module _ (n : ℕ) (marks : List ℕ) where
   -- where the bits from a place on are those of the marks, no mark from there up to the position is set
@@ -88,13 +82,10 @@ module _ (n : ℕ) (marks : List ℕ) where
 
     -- the bits above the slot are those of the marks
     above : (j : ℕ) → j < 64 → low < j → (bit_at on.rest j ≡ 1) ↔ (slice_index marks (s.base + j) ≢ 0)
-    above j h l =
-        subst (λ v. (v ≡ 1) ↔ (slice_index marks (s.base + j) ≢ 0)) (sym ((cleared s.rest some fits j).1 l))
-        (scan.taken j h (omega (arith, front-is s)))
+    above j h l = grind (arith, nat_tests, cleared, front-is)
 
     pub scan-step : IsScan n marks on
-    scan-step =
-        record { aligned = scan.aligned; within = scan.within; taken = λ j h f. above j h (omega (arith, scan-farther)) }
+    scan-step = grind (arith, nat_tests, above, scan-farther)
 
     -- there it goes on, from where it began
     pub scan-goes : (first : Scan) → front_of first ≤ front_of s → AreFree marks (front_of first) (front_of s) → length marks ≤ n
@@ -149,8 +140,7 @@ module _ {X : Type 0} (n : ℕ) (marks : List ℕ) (slots : List (Option X)) (lo
     (free : (i : ℕ) → i < n → slice_index marks i ≡ 0 → slice_get slots i ≡ Some None) where
   -- no item is in a slot whose mark isn't set
   pub nothing : (i j : ℕ) → AreFree marks i j → (k : ℕ) (x : X) → i ≤ k → k < j → slice_get slots k ≡ Some (Some x) → ⊥
-  nothing i j none k x from to s =
-      not_free x (sym s ∙ free k (omega (arith, long, slice_get_within slots k (Some x) s)) (none k from to))
+  nothing i j none k x from to s = grind (arith, nat_tests, not_free, slice_get_within)
 
   -- over slots with no mark
   pub left-clear : (i j : ℕ) → i ≤ j → AreFree marks i j → items (drop i slots) ≡ items (drop j slots)

@@ -1,3 +1,4 @@
+use Rattle.std.proofs.lemmas.Bool.Decides.{nat_tests}
 use Rattle.std.proofs.Common.{◌≡◌, ◌+◌, ◌-◌, ◌*◌, ◌/◌, ◌<◌, ℕ, suc, List, take, drop, length, refl, sym, ap, ◌∙◌, arith}
 use Rattle.std.proofs.lemmas.List.{drop-drop, take_rest}
 use Rattle.hash_ring.specs.Fx.{spread, joined, folded}
@@ -34,8 +35,4 @@ loop-i-preserved c =
 
 pub returns : goal.returns
 unfolding folded
-returns c =
-    let bytes : List ℕ = c.args.content.now in
-    let none : (length bytes - 1) / 8 - c.loop-i.i ≡ 0 = omega (arith, c.loop-i-test.false) in
-    c.joined.ensures ∙ ap (joined c.loop-i.hash) (last-word bytes c.requires)
-    ∙ ap (λ h. joined h (drop (length bytes - 8) bytes)) (rw none at c.loop-i.invariant)
+returns c = grind (arith, nat_tests)

@@ -1,16 +1,11 @@
+use Rattle.std.proofs.lemmas.Bool.Decides.{nat_tests}
 use Rattle.std.proofs.Common.{◌+◌, arith, take, refl}
 use Rattle.std.proofs.lemmas.List.{length-take-le}
 use Rattle.hash_ring.proofs.Scanning.{group-whole, scan-goes, scan-group, scan-step, taken-take}
 use Rattle.hash_ring.proofs.scan.step.Goals as goal
 
 pub taken_of_many-rest-requires : goal.taken_of_many-rest-requires
-taken_of_many-rest-requires c =
-    omega (
-      arith,
-      c.requires.long,
-      group-whole c.args.slots c.groups.base c.requires.groups c.groups.invariant.0.aligned
-          c.if-base-slots.false,
-    )
+taken_of_many-rest-requires c = grind (arith, nat_tests, group-whole)
 
 pub groups-preserved : goal.groups-preserved
 groups-preserved c =
