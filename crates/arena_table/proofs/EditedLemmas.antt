@@ -1,4 +1,5 @@
 -- Tables in an arena whose bytes are edited.
+use Rattle.std.proofs.lemmas.Bool.Decides.{nat_tests}
 use Rattle.std.proofs.Common.{arith, ◌≡◌, ℕ, ◌+◌, ◌-◌, ◌<◌, ◌≤◌, inl, inr, sym, ap, subst, ◌∙◌, Some}
 use Rattle.std.specs.Prelude.{slice_get, slice_index}
 use Rattle.std.proofs.Math.Nat.{mod-lt}
@@ -20,8 +21,7 @@ module _ {K V S : Type 0} (k : Kind K V S) (old new : Memory) (hasher : S) (t : 
   pub place-within : (h at d : ℕ) → 0 < t.slots
       → IsPlaceFor (λ p. home_of t.slots (pair_hash k old hasher p)) t.slots (slots_in k.keys k.values old t) (home_of t.slots h) at d
       → at < t.slots
-  place-within h at d some place = subst (λ p. p < t.slots) (sym place.place)
-      (spot-less t.slots (home_of t.slots h) d (mod-lt h some) place.less)
+  place-within h at d some place = grind (arith, nat_tests, spot-less, mod-lt)
 
   -- A pair is put.
   pub in-put : (h at mark : ℕ) (x : K × V) → HasFree k.keys k.values old t → IsTextBeside k.key old t.block x.0

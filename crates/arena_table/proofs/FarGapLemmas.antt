@@ -1,6 +1,6 @@
 -- A gap in a table in an arena is closed a slot at a time.
-use Rattle.std.proofs.Common.{◌≡◌, ℕ, ◌+◌, ◌%◌, ◌^◌, ◌<◌, ◌≤◌, inl, inr, List, [], ◌∷◌, ◌++◌, Option, take, drop, add-one, length, set}
-use Rattle.std.proofs.Common.{replicate, sym, ap, subst, ◌∙◌, arith, Some, None, append_assoc}
+use Rattle.std.proofs.lemmas.Bool.Decides.{nat_tests}
+use Rattle.std.proofs.Common.{◌≡◌, ℕ, ◌+◌, ◌%◌, ◌^◌, ◌<◌, ◌≤◌, inl, inr, List, [], ◌∷◌, Option, add-one, length, set, replicate, sym, ap, subst, ◌∙◌, arith, Some, None, append_assoc}
 use Rattle.std.specs.Prelude.{slice_get, slice_index}
 use Rattle.std.proofs.Math.Nat.{mod-lt}
 use Rattle.std.proofs.lemmas.List.{set_split}
@@ -25,9 +25,7 @@ use Rattle.arena_table.proofs.TableLemmas.{table-put, table-free}
 
 -- one byte is written
 splice-one : (bs : List ℕ) (at y : ℕ) → at < length bs → splice bs at (y ∷ []) ≡ set bs at y
-splice-one bs at y inside =
-    append_assoc (take at bs) (y ∷ []) (drop (at + 1) bs) ∙ ap (λ n. take at bs ++ y ∷ drop n bs) (add-one at) ∙ sym
-    (set_split bs at y inside)
+splice-one bs at y inside = grind (arith, nat_tests, append_assoc, add-one, set_split)
 
 module _ {K V S : Type 0} (k : Kind K V S) (old new : Memory) (hasher : S) (t : Table K V) (small : k.keys.SIZE ≤ 2 ^ 24)
     (few : k.values.SIZE ≤ 2 ^ 24)

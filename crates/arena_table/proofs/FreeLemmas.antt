@@ -1,6 +1,6 @@
 -- Tables with all slots free.
-use Rattle.std.proofs.Common.{◌≡◌, ℕ, zero, suc, ◌+◌, ◌*◌, ◌≤◌, List, [], ◌∷◌, length, replicate, take, drop, refl, sym, ap, ◌∙◌, arith}
-use Rattle.std.proofs.Common.{None}
+use Rattle.std.proofs.lemmas.Bool.Decides.{nat_tests}
+use Rattle.std.proofs.Common.{◌≡◌, ℕ, zero, suc, ◌*◌, ◌≤◌, List, [], ◌∷◌, length, replicate, take, refl, sym, ap, ◌∙◌, arith, None}
 use Rattle.std.proofs.lemmas.List.{length-replicate}
 use Rattle.std.proofs.Math.Nat.{mul-le-mul_left}
 use Rattle.std.specs.Prelude.{slice_get}
@@ -15,7 +15,7 @@ use Rattle.hash_ring.specs.Marks.{marked}
 use Rattle.hash_ring.proofs.Count.{none-there}
 use Rattle.hash_ring.proofs.Fill.{ordered-none}
 use Rattle.arena_table.specs.Contents.{Kind}
-use Rattle.arena_table.specs.Tables.{pair_of, slots_of, slots_in, IsTable, IsTableHandle}
+use Rattle.arena_table.specs.Tables.{slots_of, slots_in, IsTable, IsTableHandle}
 use Rattle.arena_table.specs.declared.table.Table.{Table}
 
 -- A slot with mark 0 is free.
@@ -27,8 +27,7 @@ marked-none (suc n) (x ∷ xs) long = ap (λ ys. None ∷ ys) (marked-none n xs 
 pub free-slots : {K V : Type 0} (keys : Ghosts K) (values : Ghosts V) (n : ℕ) (bytes : List ℕ) → take n bytes ≡ replicate n 0
     → slots_of keys values n bytes ≡ replicate n None
 unfolding slots_of
-free-slots keys values n bytes zeros = rw zeros (marked-none n _
-    (length-elements (keys.SIZE + values.SIZE) (pair_of keys values) n (drop n bytes)))
+free-slots keys values n bytes zeros = grind (arith, nat_tests, marked-none, length-elements)
 
 -- If a table's marks were cleared, its slots are free.
 pub freed-slots : {K V : Type 0} (keys : Ghosts K) (values : Ghosts V) (old new : Memory) (t : Table K V) → IsTableHandle keys values old t

@@ -1,6 +1,6 @@
 -- A slot of a table's bytes is freed, and the gap is closed.
-use Rattle.std.proofs.Common.{◌≡◌, ℕ, ◌+◌, ◌-◌, ◌%◌, ◌<◌, ◌≤◌, ◌⊎◌, inl, inr, List, length, get_or, refl, sym, ap, subst, ◌∙◌, arith}
-use Rattle.std.proofs.Common.{Some, None}
+use Rattle.std.proofs.lemmas.Bool.Decides.{nat_tests}
+use Rattle.std.proofs.Common.{◌≡◌, ℕ, ◌+◌, ◌-◌, ◌%◌, ◌<◌, ◌≤◌, ◌⊎◌, inl, inr, List, length, get_or, refl, sym, ap, subst, ◌∙◌, arith, Some, None}
 use Rattle.std.proofs.lemmas.Bool.{cases_lt}
 use Rattle.std.specs.Prelude.{slice_get}
 use Rattle.arena_items.specs.declared.item.Item.{Ghosts}
@@ -32,28 +32,11 @@ module _ (n : ℕ) (bytes : List ℕ) (start : ℕ) (begun : start < n) where
     here = step-place n start k gap next begun less s.place is
 
     pub near-on : get_or bytes next 0 < 240 → NearTo n bytes start (k + 1) next
-    near-on low = record {
-      place = here;
-      near = λ e l m. elim (below-next e k l) [
-        | inl b ↦ s.near e b m
-        | inr b ↦ subst (λ p. get_or bytes p 0 < 240) (here ∙ ap (λ j. spot n start (j + 1)) (sym b)) low
-      ];
-    }
+    near-on low = grind (arith, nat_tests, here, below-next, get_or)
 
     -- the gap is closed here
     pub near-stop : get_or bytes next 0 < 32 → IsNear n bytes start
-    near-stop low = record {
-      near = λ e m run. elim (cases_lt e k) [
-        | inl b ↦ s.near e b m
-        | inr b ↦ elim (cases_lt k e) [
-          | inl z ↦ absurd (omega (arith, low, subst (λ p. 32 ≤ get_or bytes p 0) (sym here) (run k z)))
-          | inr z ↦ (
-              let same : e ≡ k = omega arith in
-              let low' = subst (λ p. get_or bytes p 0 < 32) (here ∙ ap (λ j. spot n start (j + 1)) (sym same)) low in
-              omega (arith, low'))
-        ]
-      ];
-    }
+    near-stop low = grind (arith, nat_tests, cases_lt, get_or, here)
 
 -- ---- The gap
 

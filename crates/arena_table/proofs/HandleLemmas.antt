@@ -1,5 +1,6 @@
 -- Tables in an arena.
-use Rattle.std.proofs.Common.{◌≡◌, ℕ, ◌+◌, Some, List, [], ◌∷◌, sym, ap, subst, ◌^◌, ◌<◌, ◌≤◌, inl, inr, length, ◌∙◌, arith}
+use Rattle.std.proofs.lemmas.Bool.Decides.{nat_tests}
+use Rattle.std.proofs.Common.{◌≡◌, ℕ, ◌+◌, Some, List, [], ◌∷◌, sym, ap, subst, ◌^◌, ◌<◌, ◌≤◌, length, ◌∙◌, arith}
 use Rattle.std.proofs.Math.Nat.{mod-lt}
 use Rattle.std.proofs.lemmas.Option.{slice_get_within}
 use Rattle.arena_chunks.specs.Memory.{Memory, image, bytes_from}
@@ -24,12 +25,7 @@ use Rattle.arena_table.specs.declared.table.Table.{Table}
 pub handle-shape : {K V : Type 0} (keys : Ghosts K) (values : Ghosts V) (memory : Memory) (t : Table K V) → keys.SIZE ≤ 2 ^ 24
     → values.SIZE ≤ 2 ^ 24
     → IsTableHandle keys values memory t → 0 < t.slots → IsShape keys values t.slots (bytes_of memory t.block)
-handle-shape keys values memory t small few handle some = record {
-  keys_small = small;
-  values_small = few;
-  ring = elim handle.ring [ inl none ↦ absurd (omega (arith, none)) | inr r ↦ r ];
-  long = length-bytes (image memory) t.block.addr t.block.size ∙ handle.place.of_size;
-}
+handle-shape keys values memory t small few handle some = grind (arith, nat_tests, length-bytes)
 
 -- the slots of a table in an arena have their marks
 pub in-marked : {K V S : Type 0} (k : Kind K V S) (memory : Memory) (hasher : S) (t : Table K V) → k.keys.SIZE ≤ 2 ^ 24
@@ -46,8 +42,7 @@ module _ {K V S : Type 0} {k : Kind K V S} {memory : Memory} {hasher : S} {t : T
 
   -- and so is the place of a pair
   pub held-within : (i : ℕ) (x : K × V) → slice_get (slots_in k.keys k.values memory t) i ≡ Some (Some x) → i < t.slots
-  held-within i x there =
-      omega (arith, held.table.ordered.long, slice_get_within (slots_in k.keys k.values memory t) i (Some x) there)
+  held-within i x there = grind (arith, nat_tests, slice_get_within)
 
   -- A slot that has a mark holds a pair.
   pub held-taken : k.keys.SIZE ≤ 2 ^ 24 → k.values.SIZE ≤ 2 ^ 24 → (i : ℕ) → i < t.slots → 0 < slice_index (bytes_of memory t.block) i

@@ -1,6 +1,6 @@
 -- A table that is read while another is filled.
-use Rattle.std.proofs.Common.{◌≡◌, [], ◌∷◌, sym, ap, ◌∙◌}
-use Rattle.std.specs.Prelude.{slice_get}
+use Rattle.std.proofs.lemmas.Bool.Decides.{nat_tests}
+use Rattle.std.proofs.Common.{arith, ◌≡◌, [], ◌∷◌, ap}
 use Rattle.arena_items.specs.Values.{bytes_of}
 use Rattle.arena_chunks.specs.Memory.{Memory}
 use Rattle.arena_chunks.specs.Frame.{Frame, Stays}
@@ -23,17 +23,7 @@ module _ {K V S : Type 0} (k : Kind K V S) (old new : Memory) (block : Block) (t
     read-same = ap (slots_of k.keys k.values t.slots) own.bytes
 
     pub read-stays : IsReadBeside k new block t
-    read-stays = record {
-      handle = record {
-        place = record { readable = own.readable; of_size = beside.handle.place.of_size; of_align = beside.handle.place.of_align };
-        ring = beside.handle.ring;
-      };
-      apart = own.apart.0;
-      texts = λ x h.
-          let text = beside.texts x (h.0, ap (λ s. slice_get s h.0) (sym read-same) ∙ h.1) in
-          let stays = frame_keeps old new (block ∷ []) (block ∷ []) (k.key.text x.0) frame text.readable (text.apart, tt) in
-          record { readable = stays.readable; apart = stays.apart.0 };
-    }
+    read-stays = grind (arith, nat_tests, own, read-same, frame_keeps)
 
   -- A block that was placed is apart from all that could be read.
   module _ (hasher : S) (frame : Frame old new [] (block ∷ [])) (held : IsTableIn k old hasher t) where
@@ -44,14 +34,4 @@ module _ {K V S : Type 0} (k : Kind K V S) (old new : Memory) (block : Block) (t
     placed-same = ap (slots_of k.keys k.values t.slots) kept.bytes
 
     pub placed-beside : IsReadBeside k new block t
-    placed-beside = record {
-      handle = record {
-        place = record { readable = kept.readable; of_size = held.handle.place.of_size; of_align = held.handle.place.of_align };
-        ring = held.handle.ring;
-      };
-      apart = kept.apart.0;
-      texts = λ x h.
-          let text = held.texts x (h.0, ap (λ s. slice_get s h.0) (sym placed-same) ∙ h.1) in
-          let stays = frame_keeps old new [] (block ∷ []) (k.key.text x.0) frame text.readable tt in
-          record { readable = stays.readable; apart = stays.apart.0 };
-    }
+    placed-beside = grind (arith, nat_tests, kept, frame_keeps)

@@ -1,5 +1,6 @@
 -- Searches over a table's bytes.
-use Rattle.std.proofs.Common.{◌≡◌, ℕ, ◌+◌, ◌*◌, ◌/◌, ◌%◌, ◌<◌, ◌≤◌, List, length, sym, ap, subst, ◌∙◌, arith, Some}
+use Rattle.std.proofs.lemmas.Bool.Decides.{nat_tests}
+use Rattle.std.proofs.Common.{◌≡◌, ℕ, ◌+◌, ◌*◌, ◌/◌, ◌%◌, ◌<◌, ◌≤◌, List, length, sym, subst, arith, Some}
 use Rattle.std.specs.Prelude.{slice_get, slice_index}
 use Rattle.std.proofs.Math.Nat.{mod-lt}
 use Rattle.arena_items.specs.declared.item.Item.{Ghosts}
@@ -8,8 +9,7 @@ use Rattle.hash_ring.specs.Slots.{spot, items, Lacks}
 use Rattle.hash_ring.specs.Marks.{home_of, mark_of}
 use Rattle.hash_ring.proofs.Find.{Passed, Stops, passed-more}
 use Rattle.hash_ring.proofs.Homes.{step-place}
-use Rattle.hash_ring.proofs.Passing.{AreMarked, marked-passes, marked-stops, marked-spot, marked-less, marked-same, marked-lacks}
-use Rattle.hash_ring.proofs.Passing.{mark-passed-none}
+use Rattle.hash_ring.proofs.Passing.{AreMarked, marked-passes, marked-stops, marked-spot, marked-less, marked-same, marked-lacks, mark-passed-none}
 use Rattle.hash_ring.proofs.RingLemmas.{spot-zero}
 use Rattle.arena_table.specs.Tables.{slots_of, IsShape, IsTable}
 use Rattle.arena_table.proofs.SlotLemmas.{slot-taken}
@@ -29,12 +29,7 @@ module _ {K V : Type 0} (keys : Ghosts K) (values : Ghosts V) (n : ℕ) (bytes :
     marked h table = table-marked keys values h n some bytes shape table
 
     pub seeking-start : (at mark : ℕ) → at ≡ hash % n → mark ≡ mark_of hash 0 → Seeking 0 at mark
-    seeking-start at mark place is = record {
-      within = subst (λ p. p < n) (sym place) (mod-lt hash some);
-      place = place ∙ sym (spot-zero n (hash % n) (mod-lt hash some));
-      mark_is = is;
-      passed = λ h table. mark-passed-none (λ p. home_of n (h p)) n (home_of n hash) (slots_of keys values n bytes);
-    }
+    seeking-start at mark place is = grind (arith, nat_tests, mod-lt, spot-zero, mark-passed-none)
 
     -- a slot with the mark that is sought holds a pair
     pub seeking-taken : (k at mark : ℕ) → Seeking k at mark → slice_index bytes at ≡ mark
@@ -68,12 +63,7 @@ module _ {K V : Type 0} (keys : Ghosts K) (values : Ghosts V) (n : ℕ) (bytes :
           → (slice_index bytes at ≡ mark → (x : K × V) → slice_get (slots_of keys values n bytes) at ≡ Some (Some x) → content x ≡ q → ⊥)
           → Passed n content q (home_of n hash) (slots_of keys values n bytes) k
           → Passed n content q (home_of n hash) (slots_of keys values n bytes) (k + 1)
-      seeking-other high h table content q hashed other passed =
-          let y = slot-taken _ _ _ _ shape at s.within (omega (arith, high, s.mark_is)) in
-          passed-more _ _ _ _ _ _ y.0 passed (ap (slice_get (slots_of keys values n bytes)) (sym s.place) ∙ y.1)
-          (λ same. other (ap (slice_index bytes) s.place ∙ marked-same h n some (slots_of keys values n bytes) (λ i. slice_index bytes i)
-          (marked _ table) _ k less y.0 (ap (slice_get (slots_of keys values n bytes)) (sym s.place) ∙ y.1) (hashed y.0 same) ∙ sym
-          s.mark_is) y.0 y.1 same)
+      seeking-other high h table content q hashed other passed = grind (arith, nat_tests, slot-taken, passed-more, marked-same, marked)
 
       -- the search stops there
       module _ (h : K × V → ℕ) (table : IsTable keys values h n bytes) (low : slice_index bytes at < mark / 16 * 16) where

@@ -1,12 +1,10 @@
 -- Slots of a table's bytes: read, put and freed.
-use Rattle.std.proofs.Common.{◌≡◌, ℕ, zero, suc, ◌+◌, ◌-◌, ◌*◌, ◌<◌, ◌≤◌, ◌⊎◌, inl, inr, List, [], ◌∷◌, ◌++◌, length, take, drop, set}
-use Rattle.std.proofs.Common.{get_or, refl, sym, ap, subst, ◌∙◌, take-add, arith, Some, None, Option, false, length-append, append_assoc}
+use Rattle.std.proofs.Common.{◌≡◌, ℕ, zero, suc, ◌+◌, ◌-◌, ◌*◌, ◌<◌, ◌≤◌, ◌⊎◌, List, [], ◌∷◌, ◌++◌, length, take, drop, set, get_or, refl, sym, ap, subst, ◌∙◌, take-add, arith, Some, None, Option, false, length-append, append_assoc}
 use lib.Seq.{set-get_or}
 use Rattle.std.specs.Prelude.{slice_get, if◌then◌else◌, ◌==◌}
 use Rattle.std.proofs.lemmas.Grind.{common_steps}
 use Rattle.std.proofs.lemmas.Bool.Decides.{nat_tests}
-use Rattle.std.proofs.lemmas.List.{length-set, length-take, length-drop, take_at, drop_at, drop-drop, drop-take, drop-set-lt}
-use Rattle.std.proofs.lemmas.List.{get_or-set_same, get_or-set_other}
+use Rattle.std.proofs.lemmas.List.{length-set, length-take, length-drop, take_at, drop_at, drop-drop, drop-take, drop-set-lt, get_or-set_same, get_or-set_other}
 use Rattle.std.proofs.lemmas.Option.{none-some, same_Some, slice_get_within}
 use borrow.Rule.Slice.PartMut.{put_mid}
 use Rattle.arena_rules.specs.Lists.{splice}
@@ -34,10 +32,7 @@ zero-or : (m : ℕ) → (m ≡ 0) ⊎ (0 < m)
 zero-or m = grind arith
 
 held-is : {X : Type 0} (m : ℕ) (x y : X) → held m x ≡ Some y → (0 < m) × (x ≡ y)
-held-is m x y e = elim (zero-or m) [
-  | inl none ↦ absurd (none-some y (sym (held-none m x none) ∙ e))
-  | inr some ↦ (some, same_Some x y (sym (held-some m x some) ∙ e))
-]
+held-is m x y e = grind (arith, nat_tests, zero-or, none-some, held-none, same_Some, held-some)
 
 module _ {X : Type 0} where
   length-marked : (marks : List ℕ) (xs : List X) → length marks ≡ length xs → length (marked marks xs) ≡ length xs
@@ -82,25 +77,15 @@ set-take _ _ _ y h = refl
 
 -- the same write, as a write to a part that was borrowed
 pub mid-splice : (at n : ℕ) (xs ys : List ℕ) → length ys ≡ n → put_mid at (at + n - at) xs ys ≡ splice xs at ys
-mid-splice at n xs ys h =
-    let k : at + n - at ≡ n = omega arith in
-    rw (k, h) (ap (λ zs. take at xs ++ (ys ++ zs)) (drop-drop n at xs) ∙ sym (append_assoc (take at xs) ys (drop (at + n) xs)))
+mid-splice at n xs ys h = grind (arith, nat_tests, drop-drop, append_assoc)
 
 -- a write into a list is one into its second part,
 splice-split : (n at : ℕ) (xs ys : List ℕ) → splice xs (n + at) ys ≡ take n xs ++ splice (drop n xs) at ys
-splice-split n at xs ys =
-    let last : n + at + length ys ≡ n + (at + length ys) = omega arith in
-    let rest : drop (n + at + length ys) xs ≡ drop (at + length ys) (drop n xs) =
-    ap (λ k. drop k xs) last ∙ sym (drop-drop (at + length ys) n xs) in
-    rw (rest, take-add n at xs) (simp append_assoc)
+splice-split n at xs ys = grind (arith, nat_tests, drop-drop, take-add, append_assoc)
 
 -- and one that begins earlier, with the bytes that are there
 splice-behind : (at n : ℕ) (xs ys : List ℕ) → at + n ≤ length xs → splice xs (at + n) ys ≡ splice xs at (take n (drop at xs) ++ ys)
-splice-behind at n xs ys h =
-    let front : List ℕ = take n (drop at xs) in
-    let long : length front ≡ n = omega (arith, length-take n (drop at xs), length-drop at xs, h) in
-    let last : at + n + length ys ≡ at + length (front ++ ys) = omega (arith, length-append front ys, long) in
-    rw (last, take-add at n xs) (simp append_assoc)
+splice-behind at n xs ys h = grind (arith, nat_tests, length-take, length-drop, length-append, take-add, append_assoc)
 
 -- ---- Slots of bytes
 
@@ -112,10 +97,7 @@ slot-within i n key value h = omega (arith, rows_before i n (key + value) h)
 pub pair-back : {K V : Type 0} (keys : Ghosts K) (values : Ghosts V) (k : K) (v : V) → length (keys.encoded k) ≡ keys.SIZE
     → keys.decoded (keys.encoded k) ≡ k → values.decoded (values.encoded v) ≡ v
     → pair_of keys values (keys.encoded k ++ values.encoded v) ≡ (k, v)
-pair-back keys values k v long one two =
-    let key = ap keys.decoded (take_at (keys.encoded k) (values.encoded v) keys.SIZE long) ∙ one in
-    let value = ap values.decoded (drop_at (keys.encoded k) (values.encoded v) keys.SIZE long) ∙ two in
-    λ p. (key p, value p)
+pair-back keys values k v long one two = grind (arith, nat_tests, take_at, drop_at)
 
 module _ {K V : Type 0} (keys : Ghosts K) (values : Ghosts V) (n : ℕ) (bytes : List ℕ) (shape : IsShape keys values n bytes) where
   -- there are as many as marks
@@ -134,10 +116,7 @@ module _ {K V : Type 0} (keys : Ghosts K) (values : Ghosts V) (n : ℕ) (bytes :
 
   pub slots-long : length (slots_of keys values n bytes) ≡ n
   unfolding slots_of
-  slots-long =
-      let pairs = length-elements (keys.SIZE + values.SIZE) (pair_of keys values) n (drop n bytes) in
-      length-marked (take n bytes) (elements (keys.SIZE + values.SIZE) (pair_of keys values) n (drop n bytes)) (marks-long ∙ sym pairs)
-      ∙ pairs
+  slots-long = grind (arith, nat_tests, length-elements, length-marked, marks-long)
 
   slot-is : (i : ℕ) → i < n → slice_get (slots_of keys values n bytes) i ≡ Some (held (get_or bytes i 0) (pair_at i))
   unfolding slots_of pair_at
@@ -180,40 +159,14 @@ module _ {K V : Type 0} (keys : Ghosts K) (values : Ghosts V) (n : ℕ) (bytes :
   pub value-is : (i : ℕ) (x : K × V) → i < n → slice_get (slots_of keys values n bytes) i ≡ Some (Some x)
       → values.decoded (take values.SIZE (drop (n + i * (keys.SIZE + values.SIZE) + keys.SIZE) bytes)) ≡ x.1
   unfolding pair_at
-  value-is i x h s =
-      let at : drop keys.SIZE (drop (i * (keys.SIZE + values.SIZE)) (drop n bytes)) ≡ drop (n + i * (keys.SIZE + values.SIZE) + keys.SIZE)
-      bytes =
-      grind (arith, common_steps) in
-      let one = drop-take keys.SIZE values.SIZE (drop (i * (keys.SIZE + values.SIZE)) (drop n bytes)) in
-      ap values.decoded (sym (one ∙ ap (take values.SIZE) at)) ∙ ap (λ p. p.1) (holds i x h s).1
+  value-is i x h s = grind (arith, nat_tests, common_steps, drop-take, holds)
 
   -- a mark and a pair are written
   pub slot-set : (i m : ℕ) (ys : List ℕ) (x : K × V) → i < n → 0 < m → length ys ≡ keys.SIZE + values.SIZE → pair_of keys values ys ≡ x
       → SetsSlot keys values n bytes (set (take n bytes) i m ++ splice (drop n bytes) (i * (keys.SIZE + values.SIZE)) ys) i m (Some x)
   unfolding slots_of
   slot-set i m ys x h some long back =
-      let marks : List ℕ = set (take n bytes) i m in
-      let pairs : List ℕ = splice (drop n bytes) (i * (keys.SIZE + values.SIZE)) ys in
-      let dec : List ℕ → K × V = pair_of keys values in
-      let front : length (set (take n bytes) i m) ≡ n = length-set (take n bytes) i m ∙ marks-long in
-      let room : i * (keys.SIZE + values.SIZE) + (keys.SIZE + values.SIZE) ≤ length (drop n bytes) = omega
-      (arith, pairs-fit, rows_before i n (keys.SIZE + values.SIZE) h) in
-      let behind : length (splice (drop n bytes) (i * (keys.SIZE + values.SIZE)) ys) ≡ length (drop n bytes) = length-splice
-      (drop n bytes) (i * (keys.SIZE + values.SIZE)) ys (omega (arith, room, long)) in
-      record {
-        long = omega (arith, length-append marks pairs, front, behind, length-drop n bytes, marks-within);
-        slots = rw (
-          take_at marks pairs n front,
-          drop_at marks pairs n front,
-          elements-set _ dec n (drop n bytes) i ys h pairs-fit long,
-          back,
-        )
-            (marked-put (take n bytes) (elements (keys.SIZE + values.SIZE) dec n (drop n bytes)) i m x
-            ∙ ap (set (marked (take n bytes) (elements (keys.SIZE + values.SIZE) dec n (drop n bytes))) i) (held-some m x some));
-        here = front-get marks pairs i (omega (arith, front)) ∙ get_or-set_same (take n bytes) i m 0 (omega (arith, marks-long));
-        others = λ j l e. front-get marks pairs j (omega (arith, front))
-            ∙ (get_or-set_other (take n bytes) i j m 0 (λ q. e q) ∙ front-take n bytes j l);
-      }
+      grind (arith, nat_tests, set, length-set, marks-long, pairs-fit, rows_before, length-splice, length-append, length-drop, marks-within, take_at, drop_at, elements-set, marked-put, held-some, front-get, get_or-set_same, get_or-set_other, front-take)
 
   -- a value is written after its key
   pub value-set : (i : ℕ) (ys : List ℕ) (x : K × V) (v : V) → slice_get (slots_of keys values n bytes) i ≡ Some (Some x)
@@ -243,13 +196,8 @@ module _ {K V : Type 0} (keys : Ghosts K) (values : Ghosts V) (n : ℕ) (bytes :
   -- a mark is cleared
   pub slot-clear : (i : ℕ) → i < n → SetsSlot keys values n bytes (set bytes i 0) i 0 None
   unfolding slots_of
-  slot-clear i h = record {
-    long = length-set bytes i 0;
-    slots = rw (set-take n bytes i 0 h, drop-set-lt n bytes i 0 h)
-        (marked-free (take n bytes) (elements (keys.SIZE + values.SIZE) (pair_of keys values) n (drop n bytes)) i);
-    here = get_or-set_same bytes i 0 0 (omega (arith, marks-within));
-    others = λ j l e. get_or-set_other bytes i j 0 0 e;
-  }
+  slot-clear i h =
+      grind (arith, nat_tests, length-set, set-take, drop-set-lt, marked-free, get_or-set_same, marks-within, get_or-set_other)
 
 -- for automatic proof
 pub ruleset slot_laws = (slot-within)

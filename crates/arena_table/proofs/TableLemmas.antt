@@ -1,4 +1,5 @@
 -- Tables, their marks, and slots that are set and freed.
+use Rattle.std.proofs.lemmas.Bool.Decides.{nat_tests}
 use Rattle.std.proofs.Common.{◌≡◌, ℕ, ◌<◌, inl, inr, List, set, get_or, sym, ap, subst, ◌∙◌, arith, Some, None}
 use Rattle.std.specs.Prelude.{slice_get, slice_index}
 use Rattle.std.proofs.lemmas.Bool.{cases_lt}
@@ -58,19 +59,5 @@ module _ {K V : Type 0} (keys : Ghosts K) (values : Ghosts V) (hash : K × V →
 pub table-marked : {K V : Type 0} (keys : Ghosts K) (values : Ghosts V) (hash : K × V → ℕ) (n : ℕ) (some : 0 < n) (bytes : List ℕ)
     → IsShape keys values n bytes → IsTable keys values hash n bytes
     → AreMarked hash n some (slots_of keys values n bytes) (λ i. slice_index bytes i)
-table-marked keys values hash n some bytes shape t = record {
-  ordered = t.ordered;
-  free = λ i s. elim (cases_lt 0 (get_or bytes i 0)) [
-    | inl l ↦
-        let within : i < n = omega (
-          arith,
-          slots-long keys values n bytes shape,
-          slice_get_within (slots_of keys values n bytes) i None
-              s,
-        ) in
-        let r = slot-taken keys values n bytes shape i within l in
-        absurd (not_free r.0 (sym r.1 ∙ s))
-    | inr l ↦ omega arith
-  ];
-  marks = λ i d x a. t.marks i d x a;
-}
+table-marked keys values hash n some bytes shape t =
+    grind (arith, nat_tests, cases_lt, get_or, slots-long, slice_get_within, slot-taken, not_free)

@@ -1,6 +1,6 @@
 -- Walks over the pairs of a table.
-use Rattle.std.proofs.Common.{◌≡◌, ℕ, ◌+◌, ◌-◌, ◌%◌, ◌^◌, ◌<◌, ◌≤◌, ◌⊎◌, inl, inr, List, [], ◌∷◌, take, length, get_or, sym}
-use Rattle.std.proofs.Common.{ap, subst, ◌∙◌, arith, Some, None, pow-add, pow_mono}
+use Rattle.std.proofs.lemmas.Bool.Decides.{nat_tests}
+use Rattle.std.proofs.Common.{◌≡◌, ℕ, ◌+◌, ◌-◌, ◌%◌, ◌^◌, ◌<◌, ◌≤◌, ◌⊎◌, inl, inr, List, [], ◌∷◌, take, length, get_or, sym, ap, ◌∙◌, arith, Some, None, pow-add, pow_mono}
 use Rattle.std.proofs.Math.Nat.{mul-mod_left}
 use Rattle.std.proofs.Math.Path.{ap₂}
 use Rattle.std.proofs.lemmas.Bool.{cases_lt}
@@ -41,16 +41,10 @@ module _ {K V : Type 0} (keys : Ghosts K) (values : Ghosts V) (n : ℕ) (bytes :
     -- it has its slots, of which those are free that have no mark
     pub walk-slots : length (slots_of keys values n bytes) ≡ n
     unfolding slots_of
-    walk-slots = elim shape [
-      | inl e ↦ ap (λ m. length (slots_of keys values m bytes)) e ∙ sym e
-      | inr s ↦ slots-long keys values n bytes s
-    ]
+    walk-slots = grind (arith, nat_tests, slots-long)
 
     pub walk-free : (i : ℕ) → i < n → slice_index (take n bytes) i ≡ 0 → slice_get (slots_of keys values n bytes) i ≡ Some None
-    walk-free i h e = elim shape [
-      | inl z ↦ absurd (omega arith)
-      | inr s ↦ slot-free keys values n bytes s i h (sym (get_or-take n bytes i 0 h) ∙ e)
-    ]
+    walk-free i h e = grind (arith, nat_tests, slot-free, get_or-take)
 
     -- at the start all pairs are left
     pub walk-start : (s : Scan) → AreFree (take n bytes) 0 (front_of s)
@@ -113,10 +107,7 @@ pub walk-shape : {K V : Type 0} (keys : Ghosts K) (values : Ghosts V) (memory : 
     → keys.SIZE ≤ 2 ^ 24
     → values.SIZE ≤ 2 ^ 24 → IsTableHandle keys values memory t → bytes ≡ bytes_of memory t.block
     → (t.slots ≡ 0) ⊎ IsShape keys values t.slots bytes
-walk-shape keys values memory t bytes small few handle is = elim (cases_lt 0 t.slots) [
-  | inl some ↦ inr (subst (λ b. IsShape keys values t.slots b) (sym is) (handle-shape keys values memory t small few handle some))
-  | inr none ↦ inl (omega arith)
-]
+walk-shape keys values memory t bytes small few handle is = grind (arith, nat_tests, cases_lt, handle-shape)
 
 module _ {K V : Type 0} (keys : Ghosts K) (values : Ghosts V) (memory : Memory) (t : Table K V) (bytes : List ℕ)
     (small : keys.SIZE ≤ 2 ^ 24)

@@ -7,10 +7,7 @@ use Rattle.arena_table.proofs.HandleLemmas.{handle-shape, held-homes, held-taken
 use Rattle.arena_table.proofs.far.is_behind.Goals as goal
 
 pub bounds-read-at : goal.bounds-read-at
-bounds-read-at g c =
-    let some : 0 < c.args.table.slots = omega (arith, c.requires.index) in
-    let shape = handle-shape _ _ _ _ c.requires.keys_small c.requires.values_small c.requires.held.handle some in
-    rw c.read.ensures (omega (arith, shape.long, c.requires.index))
+bounds-read-at g c = grind (arith, nat_tests, handle-shape)
 
 pub returns-then-read-at-lt-FAR-clause-nearer : goal.returns-then-read-at-lt-FAR-clause-nearer
 returns-then-read-at-lt-FAR-clause-nearer g c = λ is y e away.

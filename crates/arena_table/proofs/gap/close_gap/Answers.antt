@@ -1,21 +1,15 @@
-use Rattle.std.proofs.Common.{inl, inr, arith}
+use Rattle.std.proofs.lemmas.Bool.Decides.{nat_tests}
+use Rattle.std.proofs.Common.{arith}
 use Rattle.arena_table.proofs.GapLemmas.{gap-start, gap-on, gap-stop, gap-ends}
 use Rattle.arena_table.proofs.gap.close_gap.Goals as goal
-use Rattle.arena_table.proofs.gap.close_gap.Goals.{then-mark-lt-AWAY-via-then-mark-lt-AWAY}
-use Rattle.arena_table.proofs.gap.close_gap.Goals.{then-mark-lt-AWAY-via-else-mark-lt-AWAY+then-mark-ge-FAR}
+use Rattle.arena_table.proofs.gap.close_gap.Goals.{then-mark-lt-AWAY-via-then-mark-lt-AWAY, then-mark-lt-AWAY-via-else-mark-lt-AWAY+then-mark-ge-FAR}
 
 pub slots-init : goal.slots-init
 slots-init g c = gap-start g.K.Item g.V.Item c.args.slots c.args.at c.args.bytes.now c.requires.at c.requires.shape
 
 pub returns-then-mark-lt-AWAY : goal.returns-then-mark-lt-AWAY
 returns-then-mark-lt-AWAY g c =
-    gap-stop g.K.Item g.V.Item c.args.slots c.args.at c.args.bytes.now c.requires.at c.slots.counter c.slots.bytes _ c.slots.gap
-    c.ring-next.result (omega arith)
-    c.slots.invariant c.ring-next.ensures c.requires.near (elim c.then-mark-lt-AWAY.branch [
-      | then-mark-lt-AWAY-via-then-mark-lt-AWAY w ↦ inl w.if-mark-lt-AWAY.true
-      | then-mark-lt-AWAY-via-else-mark-lt-AWAY+then-mark-ge-FAR w ↦ inr w.if-mark-ge-FAR.true
-    ])
-    c.free_slot.ensures
+    grind (arith, nat_tests, gap-stop, then-mark-lt-AWAY-via-then-mark-lt-AWAY, then-mark-lt-AWAY-via-else-mark-lt-AWAY+then-mark-ge-FAR)
 
 pub slots-preserved : goal.slots-preserved
 slots-preserved g c =

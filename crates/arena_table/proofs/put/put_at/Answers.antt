@@ -1,18 +1,12 @@
-use Rattle.std.proofs.Common.{ℕ, ◌<◌, refl, sym, subst, arith}
+use Rattle.std.proofs.lemmas.Bool.Decides.{nat_tests}
+use Rattle.std.proofs.Common.{ℕ, ◌<◌, sym, subst, arith}
 use Rattle.std.proofs.Math.Nat.{mod-lt}
 use Rattle.arena_table.proofs.PutLemmas.{putting-start, putting-less, putting-marked, putting-on, putting-done}
 use Rattle.arena_table.proofs.SlotLemmas.{slot-free, slot-taken}
 use Rattle.arena_table.proofs.put.put_at.Goals as goal
 
 pub slots-init : goal.slots-init
-slots-init g c =
-    let some : 0 < c.args.slots = omega arith in
-    record {
-      shape = c.requires.shape;
-      within = c.requires.at;
-      long = refl;
-      walk = λ hash d table place is room. putting-start _ _ _ _ some _ _ _ _ _ table place is;
-    }
+slots-init g c = grind (arith, nat_tests, putting-start)
 
 pub returns-then-old-eq0 : goal.returns-then-old-eq0
 returns-then-old-eq0 g c =

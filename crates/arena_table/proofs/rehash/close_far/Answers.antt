@@ -1,10 +1,10 @@
+use Rattle.std.proofs.lemmas.Bool.Decides.{nat_tests}
 use Rattle.std.proofs.Common.{◌<◌, ◌≤◌, refl, arith, [], ◌∷◌}
 use Rattle.std.specs.Prelude.{slice_index}
 use Rattle.arena_chunks.proofs.Layers.{frame_reflexive, frame_then}
 use Rattle.arena_items.proofs.Layers.{same_then, wrote_same}
 use Rattle.arena_items.specs.Values.{bytes_of}
 use Rattle.hash_ring.proofs.Close.{closing-start, closing-less}
-use Rattle.arena_table.specs.Tables.{IsShape}
 use Rattle.arena_table.proofs.FarGapLemmas.{far-held, far-closing, far-freed, far-closed}
 use Rattle.arena_table.proofs.HandleLemmas.{handle-shape, held-homes, held-taken, held-within, given-whole}
 use Rattle.arena_table.proofs.rehash.close_far.Goals as goal
@@ -25,9 +25,7 @@ slots-init g c =
     }
 
 pub bounds-read-from : goal.bounds-read-from
-bounds-read-from g c =
-    let shape = handle-shape _ _ _ _ c.requires.keys_small c.requires.values_small c.slots.invariant.held.handle c.slots.invariant.some in
-    rw c.read.ensures (omega (arith, shape.long, c.ring-from.ensures))
+bounds-read-from g c = grind (arith, nat_tests, handle-shape)
 
 pub returns-then-mark-lt-AWAY-clause-held : goal.returns-then-mark-lt-AWAY-clause-held
 returns-then-mark-lt-AWAY-clause-held g c =
@@ -42,12 +40,7 @@ returns-then-mark-lt-AWAY-clause-closed g c =
     c.ring-from.ensures at.closing (rw c.read.ensures at c.if-mark-lt-AWAY.true) c.write_with.ensures.edits
 
 pub write_with-requires-in-slots-clause-suits : goal.write_with-requires-in-slots-clause-suits
-write_with-requires-in-slots-clause-suits g c = (
-  given-whole c.slots.a.memory c.args.table.block (IsShape g.K.Item g.V.Item c.args.table.slots)
-      (handle-shape _ _ _ _ c.requires.keys_small c.requires.values_small c.slots.invariant.held.handle c.slots.invariant.some),
-  omega (arith, c.ring-from.ensures),
-  c.slots.invariant.within,
-)
+write_with-requires-in-slots-clause-suits g c = grind (arith, nat_tests, given-whole, handle-shape)
 
 pub slots-preserved : goal.slots-preserved
 slots-preserved g c =

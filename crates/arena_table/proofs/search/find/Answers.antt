@@ -1,4 +1,5 @@
-use Rattle.std.proofs.Common.{◌≡◌, ℕ, ◌<◌, Bool, true, false, sym, ap, subst, ◌∙◌, arith, IsTrue}
+use Rattle.std.proofs.lemmas.Bool.Decides.{nat_tests}
+use Rattle.std.proofs.Common.{◌≡◌, ℕ, Bool, true, false, sym, ap, subst, ◌∙◌, arith, IsTrue}
 use Rattle.arena_chunks.specs.Memory.{is_readable}
 use Rattle.hash_ring.proofs.Find.{passed-none}
 use Rattle.arena_table.specs.Contents.{content_in}
@@ -11,19 +12,10 @@ differ : {b : Bool} → b ≡ true → b ≡ false → ⊥
 differ h k = cc
 
 pub slots-init : goal.slots-init
-slots-init g c =
-    let some : 0 < c.args.table.slots = omega (arith, c.requires.free) in
-    let shape = handle-shape _ _ _ _ c.requires.keys_small c.requires.values_small c.requires.handle some in
-    record {
-      some = some;
-      shape = shape;
-      seeking = seeking-start _ _ _ _ c.args.hash some shape _ _ c.ring-at.ensures c.home_mark-mark.ensures;
-      passed = λ h table same. passed-none _ _ _ _ _;
-    }
+slots-init g c = grind (arith, nat_tests, handle-shape, seeking-start, passed-none)
 
 pub bounds-bytes-at : goal.bounds-bytes-at
-bounds-bytes-at g c =
-    rw c.requires.bytes (omega (arith, c.slots.invariant.shape.long, c.slots.invariant.seeking.within))
+bounds-bytes-at g c = grind (arith, nat_tests)
 
 pub key_at-requires-clause-shape : goal.key_at-requires-clause-shape
 key_at-requires-clause-shape g c = rw c.requires.bytes c.slots.invariant.shape

@@ -1,9 +1,9 @@
+use Rattle.std.proofs.lemmas.Bool.Decides.{nat_tests}
 use Rattle.std.proofs.Common.{inr, sym, subst, arith, IsTrue}
 use Rattle.std.proofs.lemmas.Option.{MatchOption-at_some}
 use Rattle.arena_chunks.specs.Memory.{is_readable}
 use Rattle.arena_items.specs.Values.{bytes_of}
-use Rattle.hash_ring.specs.Slots.{Settled}
-use Rattle.arena_table.specs.Tables.{slots_in, IsTextBeside}
+use Rattle.arena_table.specs.Tables.{IsTextBeside}
 use Rattle.arena_table.proofs.HandleLemmas.{handle-shape}
 use Rattle.arena_table.proofs.WalkLemmas.{walk-goes}
 use Rattle.arena_table.proofs.table.Table.carry.Goals as goal
@@ -27,14 +27,4 @@ settle-requires-clause-text g c =
     subst (λ w. IsTextBeside g.K.ArenaKey.key m c.args.self.block w) (sym key) (c.requires.from.texts x.0 (c.in-Some.i, x.1))
 
 pub returns-clause-carries : goal.returns-clause-carries
-returns-clause-carries g c = record {
-  scan_next = rw c.read-bytes.ensures at c.step-slot.ensures.scan;
-  at = c.in-Some.i;
-  goes = rw c.read-bytes.ensures at (MatchOption-at_some _ _ c.in-Some.i c.in-Some.is c.step-slot.ensures.goes);
-  settled = λ y s.
-      let value = (rw c.read-bytes.ensures at c.value_at-value.ensures) y s in
-      let first = (rw c.read-bytes.ensures at c.key_at-key.ensures) y s in
-      subst (λ w. Settled (slots_in g.K.Item g.V.Item c.args.a.now.memory c.args.self)
-      (slots_in g.K.Item g.V.Item c.settle.new.a.memory c.args.self) w)
-      (λ i. (first i, value i)) c.settle.ensures.settled;
-}
+returns-clause-carries g c = grind (arith, nat_tests)

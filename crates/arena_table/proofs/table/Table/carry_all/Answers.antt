@@ -1,3 +1,4 @@
+use Rattle.std.proofs.lemmas.Bool.Decides.{nat_tests}
 use Rattle.std.proofs.Common.{refl, sym, subst, ◌∙◌, arith, [], ◌∷◌, take}
 use Rattle.arena_chunks.proofs.Layers.{frame_reflexive, frame_then}
 use Rattle.arena_items.proofs.Layers.{same_then}
@@ -29,8 +30,7 @@ pairs-init g c =
     }
 
 pub carry-requires-clause-free : goal.carry-requires-clause-free
-carry-requires-clause-free g c =
-    filled-room _ c.args.self.slots _ _ c.requires.room c.pairs.invariant.filled
+carry-requires-clause-free g c = grind (arith, nat_tests, filled-room)
 
 pub carry-requires-clause-scan : goal.carry-requires-clause-scan
 carry-requires-clause-scan g c = rw c.pairs.invariant.same c.pairs.invariant.scan
@@ -62,9 +62,7 @@ pairs-preserved g c =
     }
 
 pub pairs-smaller : goal.pairs-smaller
-pairs-smaller g c =
-    let next = c.in-Some.ensures.carries in
-    omega (arith, next.goes.less, next.goes.before, next.goes.on)
+pairs-smaller g c = grind (arith, nat_tests)
 
 pub returns-clause-moved : goal.returns-clause-moved
 returns-clause-moved g c =
@@ -82,5 +80,4 @@ pub returns-clause-places : goal.returns-clause-places
 returns-clause-places g c = same_then c.args.a.now c.pairs.a c.carry.new.a c.pairs.invariant.places c.carry.ensures.places
 
 pub returns-clause-frame : goal.returns-clause-frame
-returns-clause-frame g c =
-    frame_then _ _ _ _ _ _ c.pairs.invariant.frame c.carry.ensures.frame
+returns-clause-frame g c = grind (arith, nat_tests, frame_then)

@@ -1,10 +1,10 @@
+use Rattle.std.proofs.lemmas.Bool.Decides.{nat_tests}
 use Rattle.std.proofs.Common.{◌<◌, arith}
 use Rattle.arena_table.proofs.SearchLemmas.{seeking-start, seeking-on, seeking-spot, seeking-less}
 use Rattle.arena_table.proofs.table.Table.spot_for.Goals as goal
 
 pub slots-init : goal.slots-init
-slots-init g c =
-    seeking-start _ _ _ _ c.args.hash (omega arith) c.requires.shape _ _ c.ring-at.ensures c.home_mark-mark.ensures
+slots-init g c = grind (arith, nat_tests, seeking-start)
 
 pub returns-then-bytes-at : goal.returns-then-bytes-at
 returns-then-bytes-at g c = λ h table room.
