@@ -17,8 +17,7 @@ use Rattle.arena_items.specs.declared.room.AllocError.TheVariants.{AllocErr, Cap
 use Rattle.arena_items.specs.declared.room.Growth.TheVariants.{Stays, GrowsTo, Overflows}
 use Rattle.hash_ring.specs.Policy.{most_pairs, table_align, slot_size, limit, credit, next_slots, IsSlotsFor}
 use Rattle.hash_ring.specs.Marks.{IsRing}
-use Rattle.hash_ring.proofs.PolicyLemmas.{unit-covers, table-small, slots-ring, next-ring, capacity-bytes, growth-bytes, credit-rises}
-use Rattle.hash_ring.proofs.PolicyLemmas.{credit-falls}
+use Rattle.hash_ring.proofs.PolicyLemmas.{unit-covers, table-small, slots-ring, next-ring, capacity-bytes, growth-bytes, credit-rises, credit-falls}
 use Rattle.arena_table.specs.Contents.{Kind}
 use Rattle.arena_table.proofs.LayoutLemmas.{table-layout}
 use Rattle.arena_hash.specs.Accounts.{unit_of, spare_of, credit_of, used, IsFree, AsksOnce, InsertCosts}
@@ -38,8 +37,7 @@ answer-refused f g CapacityOverflow P h = h
 pub took-refused : {X Y : Type 0} (f : X → Block) (g : Y → Block) (e : AllocError) (old new : View) (size align : ℕ)
     → Took new (λ between. RoomAnswer f (Err e) (PlacesBlock old between size align))
     → Took new (λ between. RoomAnswer g (Err e) (PlacesBlock old between size align))
-took-refused f g e old new size align took =
-    record { between = took.between; took = answer-refused f g e _ took.took; places = took.places }
+took-refused f g e old new size align took = grind (arith, nat_tests, answer-refused)
 
 -- and a fact that follows from another follows for each result.
 pub answer-map : {X : Type 0} (f : X → Block) (result : Result X AllocError) (P Q : Answer → Type 0) → ((x : Answer) → P x → Q x)

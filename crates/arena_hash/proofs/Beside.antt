@@ -1,5 +1,6 @@
 -- The blocks of the items in slots, one by one and as a list.
-use Rattle.std.proofs.Common.{◌≡◌, ℕ, suc, zero, List, [], ◌∷◌, map, refl, sym, subst, Some, None, Option}
+use Rattle.std.proofs.lemmas.Bool.Decides.{nat_tests}
+use Rattle.std.proofs.Common.{arith, ◌≡◌, ℕ, suc, zero, List, [], ◌∷◌, map, refl, sym, subst, Some, None, Option}
 use Rattle.std.proofs.lemmas.Option.{none-some}
 use Rattle.std.specs.Prelude.{slice_get, IsTrue}
 use Rattle.arena_chunks.specs.Memory.{Memory, is_readable}
@@ -52,5 +53,4 @@ module _ {K V S : Type 0} (k : Kind K V S) (memory : Memory) (m : HashMap K V S)
         (λ x h. (beside x h).readable)
 
     pub texts-apart : AreAllApart (texts_in k memory m) (m.table.block ∷ [])
-    texts-apart =
-        apart-items (λ p. k.key.text p.0) (m.table.block ∷ []) (slots_in k.keys k.values memory m.table) (λ x h. ((beside x h).apart, tt))
+    texts-apart = grind (arith, nat_tests, apart-items)

@@ -1,11 +1,10 @@
 -- What calls on one key and on whole maps do, put together.
-use Rattle.std.proofs.Common.{◌≡◌, ℕ, ◌+◌, ◌^◌, ◌<◌, ◌≤◌, inl, inr, List, [], ◌∷◌, set, refl, sym, ap, subst, ◌∙◌, arith, Some, None}
-use Rattle.std.proofs.Common.{Option, Ok, Err, true, false, Bool}
+use Rattle.std.proofs.Common.{◌≡◌, ℕ, ◌+◌, ◌^◌, ◌<◌, ◌≤◌, List, [], ◌∷◌, set, refl, sym, ap, subst, ◌∙◌, arith, Some, None, Option, Ok, Err, true, false, Bool}
 use Rattle.std.proofs.Math.Path.{fun_ext}
 use Rattle.std.proofs.lemmas.Bool.{cases_Bool, cond-true, cond-false}
 use Rattle.std.proofs.lemmas.Bool.Decides.{nat_tests}
 use Rattle.std.proofs.lemmas.Slice.Eq.{bytes_eq-Decides}
-use Rattle.std.specs.Prelude.{slice_get, nat_lt, bytes_eq, is_some, if◌then◌else◌, ◌==◌}
+use Rattle.std.specs.Prelude.{slice_get, nat_lt, is_some, if◌then◌else◌, ◌==◌}
 use Rattle.arena_chunks.specs.Memory.{Memory}
 use Rattle.arena_chunks.specs.Source.{View}
 use Rattle.arena_chunks.specs.Frame.{Frame}
@@ -51,10 +50,7 @@ few-placed size align old new block len more f x most made = go (len == most_pai
 
 -- a map without a content that it doesn't have
 pub without-none : {K V : Type 0} (f : Finite K V) (q : List ℕ) → f q ≡ None → f ≡ without f q
-without-none f q none = fun_ext (λ r. elim (cases_Bool (bytes_eq r q)) [
-  | inl t ↦ ap f ((bytes_eq-Decides r q).0 t) ∙ none ∙ sym (cond-true (bytes_eq r q) None (f r) t)
-  | inr t ↦ sym (cond-false (bytes_eq r q) None (f r) t)
-])
+without-none f q none = grind (arith, nat_tests, fun_ext, cases_Bool, bytes_eq-Decides, cond-true, cond-false)
 
 module _ {K V S : Type 0} (k : Kind K V S) (keys : IsItemLayout k.keys.SIZE k.keys.ALIGN)
     (values : IsItemLayout k.values.SIZE k.values.ALIGN)

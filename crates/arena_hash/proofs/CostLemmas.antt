@@ -1,9 +1,8 @@
 -- What calls on a map cost together.
-use Rattle.std.proofs.Common.{◌≡◌, ℕ, ◌+◌, ◌-◌, ◌*◌, ◌^◌, ◌<◌, ◌≤◌, ◌⊎◌, Bool, true, false, refl, ap, Ok, Err, arith, inl, inr}
+use Rattle.std.proofs.Common.{◌≡◌, ℕ, ◌+◌, ◌-◌, ◌*◌, ◌^◌, ◌<◌, ◌≤◌, ◌⊎◌, Bool, true, false, refl, Ok, Err, arith}
 use Rattle.std.specs.Prelude.{nat_lt, ◌==◌, OnOk, OnErr, Result, if◌then◌else◌}
 use Rattle.std.proofs.lemmas.Bool.{cases_lt}
 use Rattle.std.proofs.lemmas.Bool.Decides.{nat_tests}
-use Rattle.arena_rules.specs.State.{used_bytes}
 use Rattle.arena_chunks.specs.Source.{View}
 use Rattle.arena_store.specs.declared.block.Block.{Block}
 use Rattle.arena_chunks.proofs.Layers.{asks_same}
@@ -13,7 +12,7 @@ use Rattle.arena_items.specs.LayoutLaws.{IsAlign-bounds}
 use Rattle.arena_items.specs.Room.{MakesRoom}
 use Rattle.arena_items.specs.Values.{IsHeld}
 use Rattle.arena_items.specs.declared.room.AllocError.{AllocError}
-use Rattle.arena_items.specs.declared.room.AllocError.TheVariants.{AllocErr, CapacityOverflow}
+use Rattle.arena_items.specs.declared.room.AllocError.TheVariants.{CapacityOverflow}
 use Rattle.arena_items.specs.declared.room.Growth.TheVariants.{Stays, GrowsTo, Overflows}
 use Rattle.arena_items.proofs.Layers.{costs_nothing, room_costs}
 use Rattle.hash_ring.specs.Policy.{limit, most_pairs, next_slots, slot_size, table_align}
@@ -21,7 +20,7 @@ use Rattle.hash_ring.specs.Marks.{IsRing}
 use Rattle.hash_ring.proofs.PolicyLemmas.{unit-covers, table-small, next-ring, growth-bytes}
 use Rattle.arena_table.specs.Contents.{Kind}
 use Rattle.arena_table.proofs.LayoutLemmas.{table-align, table-layout}
-use Rattle.arena_hash.specs.Accounts.{unit_of, spare_of, credit_of, used, InsertCosts}
+use Rattle.arena_hash.specs.Accounts.{unit_of, credit_of, used, InsertCosts}
 use Rattle.arena_hash.specs.Policy.{growth_for}
 use Rattle.arena_hash.specs.declared.map.HashMap.{HashMap}
 use Rattle.arena_hash.proofs.AccountLemmas.{answer-map}
@@ -33,25 +32,14 @@ pub insert-most : {X K V S : Type 0} (k : Kind K V S) (old new : View) (m w : Ha
     (result : Result X AllocError) → InsertCosts k old new m is_there w result
     → OnErr result ((w ≡ m) × (new.memory ≡ old.memory))
     → used new + credit_of k w ≤ used old + (credit_of k m + 2 * unit_of k)
-insert-most k old new m w true result costs err = let free = (costs.there refl).1 in omega (arith, free.bytes, free.credit)
-insert-most k old new m w false (Ok x) costs err = elim (cases_lt 0 (spare_of m)) [
-  | inl room ↦ let paid = (costs.room refl room).1 in omega (arith, paid.bytes, paid.credit)
-  | inr none ↦ omega (arith, costs.grows refl (omega arith))
-]
-insert-most k old new m w false (Err e) costs err =
-    omega (arith, ap (λ memory. used_bytes memory.state) err.1, costs.refused.1)
+insert-most k old new m w is_there result costs err = grind (arith, nat_tests, cases_lt)
 
 -- ---- All that an insert costs
 
 -- A call that did nothing asks for nothing, and is no refusal of the arena's.
 overflow-costs : {X : Type 0} (bytes before : ℕ) (old new : View) (result : Result X AllocError) → result ≡ Err CapacityOverflow
     → new ≡ old → Costs farthest bytes before 0 old new result
-overflow-costs bytes before old new result is same = record {
-  takes = omega (arith, ap used same);
-  asks = asks_same _ old new (ap (λ (v : View). v.memory.state) same) (ap (λ (v : View). v.source) same);
-  starved = λ growing n no. absurd (let two : Err CapacityOverflow ≡ Err (AllocErr n) = rw is at no in cc);
-  full = λ still n no. absurd (let two : Err CapacityOverflow ≡ Err (AllocErr n) = rw is at no in cc);
-}
+overflow-costs bytes before old new result is same = grind (arith, nat_tests, asks_same)
 
 module _ {K V S : Type 0} (k : Kind K V S) (keys : IsItemLayout k.keys.SIZE k.keys.ALIGN)
     (values : IsItemLayout k.values.SIZE k.values.ALIGN)
@@ -124,11 +112,4 @@ module _ {K V S : Type 0} (k : Kind K V S) (keys : IsItemLayout k.keys.SIZE k.ke
         → MakesRoom size align old new m.table.block 0 (growth_for is_there m.table.slots m.len) (λ _. w.table.block) result
         → InsertCosts k old new m is_there w result → OnErr result ((w ≡ m) × (new.memory ≡ old.memory))
         → Costs farthest (2 * unit_of k) (credit_of k m) (credit_of k w) old new result
-    insert-all is_there result made costs err =
-        let asks = all-asks is_there result made in
-        record {
-          takes = omega (arith, insert-most k old new m w is_there result costs err);
-          asks = asks.asks;
-          starved = asks.starved;
-          full = asks.full;
-        }
+    insert-all is_there result made costs err = grind (arith, nat_tests, all-asks, insert-most)

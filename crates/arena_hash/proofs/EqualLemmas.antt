@@ -1,4 +1,5 @@
 -- Two maps whose pairs are compared.
+use Rattle.std.proofs.lemmas.Bool.Decides.{nat_tests}
 use Rattle.std.proofs.Common.{◌≡◌, ℕ, List, [], ◌∷◌, ◌++◌, append-nil, sym, ap, subst, ◌∙◌, arith, Some, None, Option, Bool, true, false}
 use Rattle.std.proofs.lemmas.Bool.{both_ways, not-true, not-false}
 use Rattle.std.specs.Prelude.{slice_get, not, IsTrue}
@@ -20,9 +21,7 @@ module _ {K V S : Type 0} {k : Kind K V S} {memory : Memory} (eq : V → V → B
 
   -- equal maps have as many pairs
   pub equal-len : AreEqual {K = K} eq (map_in k memory one) (map_in k memory other) → one.len ≡ other.len
-  equal-len equal =
-      held.count
-      ∙ same-length content content (pairs_in k memory one) _ held.once held'.once (λ q. both-has eq _ _ (equal q)) ∙ sym held'.count
+  equal-len equal = grind (arith, nat_tests, same-length, both-has)
 
   -- A walk gives the pairs of the first map, and the other has those that were given.
   module _ {xs all done left : List (K × V)} (lists : Lists content (map_in k memory one) xs) (are : all ≡ xs)
@@ -67,8 +66,7 @@ module _ {V : Type 0} (eq : V → V → Bool) (value found : V) {result other : 
 
   -- another one
   pub gave-other : result ≡ Some found → true ≡ not (eq value found) → AreBoth eq (Some value) other → ⊥
-  gave-other is differs both =
-      both_ways (eq value found) (not-true (eq value found) (sym differs)) (subst (λ o. AreBoth eq (Some value) o) (sym gave ∙ is) both)
+  gave-other is differs both = grind (arith, nat_tests, both_ways, not-true)
 
   -- none
   pub gave-none : result ≡ None → AreBoth eq (Some value) other → ⊥

@@ -1,17 +1,16 @@
 -- What a call on other blocks leaves of a map: the map, and the places where searches of it end.
-use Rattle.std.proofs.Common.{◌≡◌, ℕ, List, Option, sym, subst, ◌∙◌}
+use Rattle.std.proofs.lemmas.Bool.Decides.{nat_tests}
+use Rattle.std.proofs.Common.{arith, ◌≡◌, ℕ, List, Option, sym, subst}
 use Rattle.arena_chunks.specs.Memory.{Memory}
 use Rattle.arena_chunks.specs.Frame.{Frame, AreAllApart}
 use Rattle.arena_store.specs.declared.block.Block.{Block}
 use Rattle.arena_chunks.proofs.Layers.{frame_keeps_all}
 use Rattle.arena_items.specs.Footprint.{Agree}
 use Rattle.arena_items.proofs.Layers.{stays_readable, stays_agree, stays_apart}
-use Rattle.hash_ring.specs.AgreeLaws.{away-agree, behind-agree}
 use Rattle.hash_ring.specs.Searches.{IsSpotFor, Ends}
 use Rattle.hash_ring.specs.Slots.{Has}
 use Rattle.hash_ring.specs.Marks.{home_of}
 use Rattle.hash_ring.specs.declared.marks.Spot.{Spot}
-use Rattle.hash_ring.specs.declared.marks.Spot.TheVariants.{Taken, Open}
 use Rattle.arena_table.specs.Contents.{Kind, content_in}
 use Rattle.arena_table.specs.Tables.{pair_hash, slots_in}
 use Rattle.arena_hash.specs.AgreeLaws.{slots-same, homes-same, content-same, footprint-agree, meaning-agree, held-agree}
@@ -22,25 +21,11 @@ use Rattle.arena_hash.specs.declared.map.Look.{Look}
 -- A search ends at the same slot under other homes and contents that agree on the items in slots.
 module _ {X : Type 0} (one other : X → ℕ) (n : ℕ) (slots : List (Option X)) (homes : (x : X) → Has slots x → other x ≡ one x) where
   spot-agree : (hash at mark : ℕ) → IsSpotFor one n slots hash at mark → IsSpotFor other n slots hash at mark
-  spot-agree hash at mark s = record {
-    distance = s.distance;
-    mark_is = s.mark_is;
-    near = λ less.
-        let p = s.near less in
-        record {
-          less = p.less;
-          place = p.place;
-          fits = λ e is. behind-agree one other n slots homes _ e (p.fits e is);
-          nearer = λ y e a. p.nearer y e (away-agree other one n slots (λ z h. sym (homes z h)) at y e a);
-        };
-    far = λ le. record { behind = λ e less. behind-agree one other n slots homes _ _ ((s.far le).behind e less) };
-  }
+  spot-agree hash at mark s = grind (arith, nat_tests)
 
   ends-agree : (was is : X → List ℕ) → ((x : X) → Has slots x → is x ≡ was x) → (q : List ℕ) (hash : ℕ) (end : Spot)
       → Ends one n slots was q hash end → Ends other n slots is q hash end
-  ends-agree was is same q hash (Taken at) e = (e.0, e.1, same e.0 (at, e.1) ∙ e.2)
-  ends-agree was is same q hash (Open at mark) e =
-      (λ j x there has. e.0 j x there (sym (same x (j, there)) ∙ has), λ some. spot-agree hash at mark (e.1 some))
+  ends-agree was is same q hash end e = grind (arith, nat_tests, spot-agree)
 
 module _ {K V S : Type 0} (k : Kind K V S) where
   abbrev home_by : Memory → HashMap K V S → K × V → ℕ

@@ -1,6 +1,6 @@
 -- Maps in an arena, as calls change them.
-use Rattle.std.proofs.Common.{◌≡◌, ℕ, ◌+◌, ◌<◌, ◌≤◌, inl, inr, List, [], ◌∷◌, length, set, refl, sym, ap, subst, ◌∙◌, arith, Some, None}
-use Rattle.std.proofs.Common.{Option, IsTrue}
+use Rattle.std.proofs.lemmas.Bool.Decides.{nat_tests}
+use Rattle.std.proofs.Common.{◌≡◌, ℕ, ◌+◌, ◌<◌, ◌≤◌, inl, inr, List, [], ◌∷◌, length, set, refl, sym, ap, subst, ◌∙◌, arith, Some, None, Option, IsTrue}
 use Rattle.std.proofs.lemmas.Option.{slice_get_within}
 use Rattle.std.specs.Prelude.{slice_get}
 use Rattle.arena_chunks.specs.Memory.{Memory, is_readable}
@@ -71,9 +71,7 @@ module _ {K V S : Type 0} (k : Kind K V S) where
   pub text-beside : (old new : Memory) (block : Block) (x : K) → Frame old new [] (block ∷ [])
       → IsTrue (is_readable old.state (k.key.text x))
       → IsTextBeside k.key new block x
-  text-beside old new block x frame readable =
-      let stays = frame_keeps old new [] (block ∷ []) (k.key.text x) frame readable tt in
-      record { readable = stays.readable; apart = stays.apart.0 }
+  text-beside old new block x frame readable = grind (arith, nat_tests, frame_keeps)
 
   module _ (old new : Memory) (m w : HashMap K V S) (held : IsMapIn k old m)
       (frame : Frame old new (m.table.block ∷ []) (w.table.block ∷ []))
@@ -87,16 +85,7 @@ module _ {K V S : Type 0} (k : Kind K V S) where
     -- a table whose keys' texts were readable before, and apart from the block, is a map
     module _ (knows : (x : K × V) → Has (slots new w) x → IsTextBeside k.key old m.table.block x.0) where
       next-held : IsOnce (content old) (slots new w) → w.len ≡ length (pairs_in k new w) → w.len ≤ limit w.table.slots → IsMapIn k new w
-      next-held once count within = record {
-        handle = table.handle;
-        table = table.table;
-        texts = texts-readable k new w table.texts;
-        apart = texts-apart k new w table.texts;
-        once = are_once (content_in k.key new) (slots new w) (once-agree (content old) (content new) (slots new w)
-            (λ x h. same x (knows x h)) once);
-        count = count;
-        within = within;
-      }
+      next-held once count within = grind (arith, nat_tests, texts-readable, texts-apart, are_once, once-agree, same)
 
       next-is : map_in k new w ≡ first_of (content_in k.key old) (items (slots new w))
       next-is = under-agree (content_in k.key old) (content_in k.key new) (slots new w) (λ x h. same x (knows x h))

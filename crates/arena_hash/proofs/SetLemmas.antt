@@ -1,15 +1,14 @@
 -- Calls on sets, as calls on their maps.
-use Rattle.std.proofs.Common.{◌≡◌, ◌↔◌, List, [], ◌∷◌, map, refl, sym, Ok, Err, Option, Some, None, Bool, IsTrue}
+use Rattle.std.proofs.lemmas.Bool.Decides.{nat_tests}
+use Rattle.std.proofs.Common.{arith, ◌≡◌, ◌↔◌, List, [], ◌∷◌, map, Ok, Err, Option, Bool, IsTrue}
 use Rattle.std.proofs.lemmas.Bool.{false≢true}
 use Rattle.std.specs.Iterator.{Yields}
 use Rattle.std.specs.Prelude.{is_some}
 use Rattle.arena_chunks.specs.Source.{View}
-use Rattle.arena_items.specs.Room.{SamePlaces}
 use Rattle.arena_items.specs.declared.room.AllocError.{AllocError}
 use Rattle.arena_items.proofs.Layers.{room_then, room_refused}
 use Rattle.hash_ring.specs.Finite.{Finite, value_of}
 use Rattle.hash_ring.specs.Walks.{AreBoth, AreEqual}
-use Rattle.hash_ring.specs.Policy.{slot_size, table_align}
 use Rattle.hash_ring.proofs.Equal.{both-has}
 use Rattle.arena_table.specs.Contents.{Kind}
 use Rattle.arena_hash.specs.Changes.{Puts}
@@ -22,76 +21,23 @@ module _ {K V S X Y : Type 0} (k : Kind K V S) (old new : View) (m : HashMap K V
   -- What a put reports may be replaced by what follows from it,
   pub puts-as : (x : X) (y : Y) → ((before : Option V) → tells before x → says before y) → Puts k old new m key value tells w (Ok x)
       → Puts k old new m key value says w (Ok y)
-  puts-as x y told p =
-      let same : SamePlaces new new = record { state = refl; statistics = refl; source = refl } in
-      record {
-        made = room_then (slot_size k.keys.SIZE k.values.SIZE) (table_align k.keys.ALIGN k.values.ALIGN) old _ _ m.table.block 0 _
-            (λ _. w.table.block) (λ _. w.table.block) x y refl p.made same;
-        held = p.held;
-        map_is = p.map_is;
-        says = told _ p.says;
-        len = p.len;
-        err = tt;
-        costs = record {
-          there = λ is. (refl, (p.costs.there is).1);
-          room = λ is some. (refl, (p.costs.room is some).1);
-          grows = p.costs.grows;
-          asks = λ is none few. let a = p.costs.asks is none few in record
-              { size = a.size; bounded = a.bounded; within = a.within; took = a.took };
-          refused = tt;
-        };
-        hasher = p.hasher;
-        frame = p.frame;
-      }
+  puts-as x y told p = grind (arith, nat_tests, room_then)
 
   -- and so may the result type of a refusal.
   pub puts-refused-as : (e : AllocError) → Puts {X = X} k old new m key value tells w (Err e) → Puts {X = Y} k old new m key value says w
       (Err e)
-  puts-refused-as e p = record {
-    made = room_refused (slot_size k.keys.SIZE k.values.SIZE) (table_align k.keys.ALIGN k.values.ALIGN) old new m.table.block 0 _
-        (λ _. w.table.block)
-        (λ _. w.table.block) e p.made;
-    held = p.held;
-    map_is = tt;
-    says = tt;
-    len = tt;
-    err = p.err;
-    costs = record {
-      there = λ is. absurd (let no = (p.costs.there is).0 in cc);
-      room = λ is some. absurd (let no = (p.costs.room is some).0 in cc);
-      grows = λ is none. tt;
-      asks = λ is none few. let a = p.costs.asks is none few in record {
-        size = a.size;
-        bounded = a.bounded;
-        within = a.within;
-        took = record {
-          between = a.took.between;
-          took = answer-refused {X = X} {Y = Y} (λ _. w.table.block) (λ _. w.table.block) e _ a.took.took;
-          places = a.took.places;
-        };
-      };
-      refused = p.costs.refused;
-    };
-    hasher = p.hasher;
-    frame = p.frame;
-  }
+  puts-refused-as e p = grind (arith, nat_tests, room_refused, answer-refused)
 
 -- ---- Equality: that of two maps with no values
 
 has-both : {K : Type 0} (eq : Unit {0} → Unit {0} → Bool) → ((x y : Unit {0}) → IsTrue (eq x y)) → (one other : Option (K × Unit {0}))
     → is_some one ≡ is_some other → AreBoth eq (value_of one) (value_of other)
-has-both eq all None None e = tt
-has-both eq all None (Some y) e = absurd (false≢true e)
-has-both eq all (Some x) None e = absurd (false≢true (sym e))
-has-both eq all (Some x) (Some y) e = all x.1 y.1
+has-both eq all one other e = grind (arith, nat_tests, false≢true)
 
 -- If any two values are equal, equal maps have the same contents.
 pub same-sets : {K : Type 0} (eq : Unit {0} → Unit {0} → Bool) → ((x y : Unit {0}) → IsTrue (eq x y)) → (one other : Finite K (Unit {0}))
     → (answer : Bool) → (IsTrue answer ↔ AreEqual eq one other) → (IsTrue answer ↔ HaveSame one other)
-same-sets eq all one other answer equal = (
-  (λ t q. both-has eq (one q) (other q) (equal.0 t q)),
-  (λ same. equal.1 (λ q. has-both eq all (one q) (other q) (same q))),
-)
+same-sets eq all one other answer equal = grind (arith, nat_tests, both-has, has-both)
 
 -- ---- Iterators
 

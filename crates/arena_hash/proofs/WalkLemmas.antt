@@ -1,14 +1,12 @@
 -- Walks over the pairs of a map.
-use Rattle.std.proofs.Common.{◌≡◌, ℕ, ◌^◌, ◌≤◌, ◌⊎◌, List, take, length, sym}
-use Rattle.std.proofs.Common.{ap, subst, ◌∙◌}
+use Rattle.std.proofs.lemmas.Bool.Decides.{nat_tests}
+use Rattle.std.proofs.Common.{arith, ◌≡◌, ℕ, ◌^◌, ◌≤◌, ◌⊎◌, List, take, length, sym, ap, ◌∙◌}
 use Rattle.arena_chunks.specs.Memory.{Memory}
 use Rattle.arena_items.specs.Values.{bytes_of}
-use Rattle.hash_ring.specs.Finite.{AreOnce, first_of}
-use Rattle.hash_ring.specs.Slots.{items}
 use Rattle.hash_ring.specs.Walks.{front_of, AreFree, IsScan, Lists}
 use Rattle.hash_ring.specs.declared.scan.Scan.{Scan}
 use Rattle.arena_table.specs.Contents.{Kind, content_in}
-use Rattle.arena_table.specs.Tables.{slots_of, IsShape}
+use Rattle.arena_table.specs.Tables.{IsShape}
 use Rattle.arena_table.specs.Walks.{left_in, IsWalk}
 use Rattle.arena_table.proofs.WalkLemmas.{walk-shape, walk-start}
 use Rattle.arena_hash.specs.Maps.{IsMapIn, map_in, pairs_in}
@@ -21,9 +19,7 @@ module _ {K V S : Type 0} (k : Kind K V S) (memory : Memory) (m : HashMap K V S)
 
   module _ (s : Scan) (none : AreFree (take m.table.slots bytes) 0 (front_of s)) where
     all : left_in k.keys k.values m.table.slots bytes s ≡ pairs_in k memory m
-    all =
-        walk-start k.keys k.values m.table.slots bytes shape s none
-        ∙ ap (λ b. items (slots_of k.keys k.values m.table.slots b)) is
+    all = grind (arith, nat_tests, walk-start, shape)
 
     -- it is one
     pub map-walk : IsScan m.table.slots (take m.table.slots bytes) s → IsWalk k.keys k.values m.table.slots bytes s m.len
@@ -31,7 +27,4 @@ module _ {K V S : Type 0} (k : Kind K V S) (memory : Memory) (m : HashMap K V S)
 
     -- and lists the map
     pub map-lists : Lists (content_in k.key memory) (map_in k memory m) (left_in k.keys k.values m.table.slots bytes s)
-    map-lists = record {
-      once = subst (λ ps. AreOnce (content_in k.key memory) ps) (sym all) held.once;
-      map_is = ap (first_of (content_in k.key memory)) all;
-    }
+    map-lists = grind (arith, nat_tests, all)

@@ -1,5 +1,6 @@
 -- Maps that are made.
-use Rattle.std.proofs.Common.{◌≡◌, ℕ, ◌*◌, ◌^◌, ◌<◌, ◌≤◌, [], ◌∷◌, replicate, refl, sym, ap, subst, arith, None, Ok, Err}
+use Rattle.std.proofs.lemmas.Bool.Decides.{nat_tests}
+use Rattle.std.proofs.Common.{◌≡◌, ℕ, ◌*◌, ◌^◌, ◌<◌, ◌≤◌, [], ◌∷◌, replicate, refl, sym, subst, arith, None, Ok, Err}
 use Rattle.arena_chunks.specs.Memory.{Memory}
 use Rattle.arena_chunks.specs.Source.{View}
 use Rattle.arena_chunks.specs.BlockCalls.{PlacesBlock}
@@ -9,7 +10,6 @@ use Rattle.arena_items.specs.Layout.{IsItemLayout}
 use Rattle.arena_items.specs.Room.{RoomAnswer, Took}
 use Rattle.arena_items.specs.Values.{bytes_of}
 use Rattle.arena_items.specs.declared.room.AllocError.{AllocError}
-use Rattle.arena_items.specs.declared.room.AllocError.TheVariants.{CapacityOverflow}
 use Rattle.hash_ring.specs.Policy.{slot_size, table_align, IsSlotsFor}
 use Rattle.hash_ring.proofs.PolicyLemmas.{credit-none}
 use Rattle.arena_table.specs.Contents.{Kind}
@@ -94,68 +94,15 @@ module _ {K V S : Type 0} (k : Kind K V S) (keys : IsItemLayout k.keys.SIZE k.ke
     pub places-refused : (e : AllocError) → Took new (λ between. RoomAnswer {X = Table K V} (λ t. t.block) (Err e)
         (PlacesBlock old between (slots * slot_size k.keys.SIZE k.values.SIZE) (table_align k.keys.ALIGN k.values.ALIGN)))
         → new.memory ≡ old.memory → PlacesMap {X = HashMap K V S} k (λ m. m) old new pairs (Err e)
-    places-refused e took same =
-        let made = took-refused {X = Table K V} {Y = HashMap K V S} (λ t. t.block) (λ m. m.table.block) e old new
-        (slots * slot_size k.keys.SIZE k.values.SIZE) (table_align k.keys.ALIGN k.values.ALIGN) took in
-        let costs = capacity-costs k keys values keys_small values_small {X = HashMap K V S} old new (λ m. m.table.block) pairs slots
-        (Err e) some few is made in
-        record {
-          none = λ is. absurd (omega (arith, some, is));
-          overflows = λ many. absurd (omega (arith, many, few));
-          made = λ h l. (slots, is, made);
-          asks = λ h l. costs.0;
-          held = tt;
-          map_is = tt;
-          len = tt;
-          slots = λ h. tt;
-          spare = tt;
-          credit = tt;
-          bytes = tt;
-          err = same;
-          frame = tt;
-        }
+    places-refused e took same = grind (arith, nat_tests, took-refused, capacity-costs)
 
 -- A set is created as its map is.
 pub places-as : {K V S X Y : Type 0} (k : Kind K V S) (f : X → HashMap K V S) (h : Y
     → HashMap K V S) (old new : View) (pairs : ℕ) (x : X) (y : Y)
     → h y ≡ f x → PlacesMap k f old new pairs (Ok x) → PlacesMap k h old new pairs (Ok y)
-places-as k f h old new pairs x y same p = record {
-  none = λ is. let n = p.none is in (n.0, rw same n.1);
-  overflows = λ many. absurd (let no = (p.overflows many).1 in cc);
-  made = λ some few. let a = p.made some few in (a.0, a.1, rw same a.2);
-  asks = λ some few. let a = p.asks some few in record { size = a.size; bounded = a.bounded; within = a.within; took = rw same a.took };
-  held = rw same p.held;
-  map_is = rw same p.map_is;
-  len = rw same p.len;
-  slots = λ some. rw same (p.slots some);
-  spare = rw same p.spare;
-  credit = rw same p.credit;
-  bytes = p.bytes;
-  err = tt;
-  frame = rw same p.frame;
-}
+places-as k f h old new pairs x y same p = grind (arith, nat_tests)
 
 pub refused-as : {K V S X Y : Type 0} (k : Kind K V S) (f : X → HashMap K V S) (h : Y
     → HashMap K V S) (old new : View) (pairs : ℕ) (e : AllocError)
     → PlacesMap k f old new pairs (Err e) → PlacesMap k h old new pairs (Err e)
-refused-as k f h old new pairs e p = record {
-  none = λ is. absurd (p.none is).1;
-  overflows = λ many. let o = p.overflows many in (o.0, (let is : e ≡ CapacityOverflow = (let no = o.1 in cc) in ap Err is));
-  made = λ some few. let a = p.made some few in
-      (a.0, a.1, took-refused (λ x. (f x).table.block) (λ y. (h y).table.block) e old new _ _ a.2);
-  asks = λ some few. let a = p.asks some few in record {
-    size = a.size;
-    bounded = a.bounded;
-    within = a.within;
-    took = took-refused (λ x. (f x).table.block) (λ y. (h y).table.block) e old new _ _ a.took;
-  };
-  held = tt;
-  map_is = tt;
-  len = tt;
-  slots = λ some. tt;
-  spare = tt;
-  credit = tt;
-  bytes = tt;
-  err = p.err;
-  frame = tt;
-}
+refused-as k f h old new pairs e p = grind (arith, nat_tests, took-refused)

@@ -1,11 +1,11 @@
+use Rattle.std.proofs.lemmas.Bool.Decides.{nat_tests}
 use Rattle.std.proofs.Common.{◌-◌, arith}
 use Rattle.hash_ring.specs.Policy.{slot_size, table_align, unit}
 use Rattle.hash_ring.proofs.PolicyLemmas.{table-holds, capacity-bytes, full-credit, unit-covers}
 use Rattle.arena_hash.proofs.laws.bytes_law.Goals as goal
 
 pub returns-clause-pairs : goal.returns-clause-pairs
-returns-clause-pairs g c = λ memory m held.
-    omega (arith, held.handle.place.of_size, table-holds g.K.Item.SIZE g.V.Item.SIZE m.table.slots m.len held.within)
+returns-clause-pairs g c = grind (arith, nat_tests, table-holds)
 
 pub returns-clause-table : goal.returns-clause-table
 returns-clause-table g c =
@@ -15,7 +15,4 @@ returns-clause-table g c =
     (omega (arith, unit-covers k.SIZE v.SIZE k.ALIGN v.ALIGN))
 
 pub returns-clause-full : goal.returns-clause-full
-returns-clause-full g c =
-    let k = g.K.Item in
-    let v = g.V.Item in
-    full-credit (unit k.SIZE v.SIZE k.ALIGN v.ALIGN)
+returns-clause-full g c = grind (arith, nat_tests, full-credit)

@@ -1,8 +1,8 @@
-use Rattle.std.proofs.Common.{ℕ, ◌<◌, sym, ap, subst, ◌∙◌, arith, None, replicate}
+use Rattle.std.proofs.lemmas.Bool.Decides.{nat_tests}
+use Rattle.std.proofs.Common.{sym, ap, subst, ◌∙◌, arith, None, replicate}
 use Rattle.std.specs.Prelude.{slice_get}
 use Rattle.std.proofs.lemmas.Result.{err_from_is_err_and}
 use Rattle.arena_chunks.proofs.Layers.{frame_then}
-use Rattle.hash_ring.specs.Policy.{slot_size, table_align, most_pairs}
 use Rattle.hash_ring.specs.Slots.{Moved}
 use Rattle.hash_ring.proofs.Count.{items-most, none-there}
 use Rattle.hash_ring.proofs.PolicyLemmas.{next-ring}
@@ -14,18 +14,10 @@ use Rattle.arena_hash.proofs.GrowLemmas.{made-placed, next-above}
 use Rattle.arena_hash.proofs.map.HashMap.grown.Goals as goal
 
 pub place-requires-clause-ring : goal.place-requires-clause-ring
-place-requires-clause-ring g c =
-    let few : c.args.self.now.len < most_pairs = omega (arith, c.if-self.false) in
-    rw c.next_slots.ensures (next-ring c.args.self.now.table.slots c.args.self.now.len c.requires.held.handle.ring c.requires.full few)
+place-requires-clause-ring g c = grind (arith, nat_tests, next-ring)
 
 pub returns-in_err-table-clause-made : goal.returns-in_err-table-clause-made
-returns-in_err-table-clause-made g c =
-    let e = err_from_is_err_and c.from_residual.result c.from_residual.ensures.1 in
-    let size : ℕ = slot_size g.K.Item.SIZE g.V.Item.SIZE in
-    let align : ℕ = table_align g.K.Item.ALIGN g.V.Item.ALIGN in
-    rw (e.1, e.2)
-    (made-placed size align c.args.a.now _ c.args.self.now.table.block _ _ _ (λ t. t.block) _ c.if-self.false c.next_slots.ensures
-    c.in_err-table.ensures.asks)
+returns-in_err-table-clause-made g c = grind (arith, nat_tests, err_from_is_err_and, made-placed)
 
 pub carry_all-requires-clause-held : goal.carry_all-requires-clause-held
 carry_all-requires-clause-held g c =
@@ -59,5 +51,4 @@ returns-clause-moved g c =
     subst (λ s. Moved s (slots_in g.K.Item g.V.Item c.carry_all.new.a.memory c.in_ok-table.table)) same c.carry_all.ensures.moved
 
 pub returns-clause-frame : goal.returns-clause-frame
-returns-clause-frame g c =
-    frame_then _ _ _ _ _ _ c.in_ok-table.ensures.frame c.carry_all.ensures.frame
+returns-clause-frame g c = grind (arith, nat_tests, frame_then)

@@ -1,4 +1,5 @@
-use Rattle.std.proofs.Common.{ap, sym, ◌∙◌, refl, None}
+use Rattle.std.proofs.lemmas.Bool.Decides.{nat_tests}
+use Rattle.std.proofs.Common.{arith, ap, sym, ◌∙◌, refl, None}
 use Rattle.std.proofs.lemmas.Result.{err_from_is_err_and}
 use Rattle.arena_table.specs.Contents.{kind}
 use Rattle.arena_hash.specs.Changes.{is_value}
@@ -18,9 +19,7 @@ returns-in_err-self g c =
     c.args.key c.requires.lacks c.grown.new.a c.args.value is_value _ _ c.requires.full grown.made grown.err)
 
 pub settle-requires-clause-text : goal.settle-requires-clause-text
-settle-requires-clause-text g c =
-    let k = kind g.K.Item g.K.ArenaKey.key g.V.Item g.S.KeyHasher.hash_of in
-    text-beside k c.args.a.now.memory c.grown.new.a.memory _ c.args.key c.in_ok-self.ensures.frame c.requires.text.readable
+settle-requires-clause-text g c = grind (arith, nat_tests, text-beside)
 
 pub settle-requires-clause-hash : goal.settle-requires-clause-hash
 settle-requires-clause-hash g c =

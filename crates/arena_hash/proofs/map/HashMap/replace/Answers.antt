@@ -1,22 +1,13 @@
+use Rattle.std.proofs.lemmas.Bool.Decides.{nat_tests}
 use Rattle.std.proofs.Common.{◌<◌, Some, arith}
 use Rattle.std.proofs.lemmas.Option.{slice_get_within}
-use Rattle.arena_table.specs.Tables.{slots_in, IsShape}
+use Rattle.arena_table.specs.Tables.{slots_in}
 use Rattle.arena_table.proofs.ChangedLemmas.{changed-slots, changed-table}
 use Rattle.arena_table.proofs.HandleLemmas.{handle-shape, given-whole}
 use Rattle.arena_hash.proofs.map.HashMap.replace.Goals as goal
 
 pub write_with-requires-clause-suits : goal.write_with-requires-clause-suits
-write_with-requires-clause-suits g c =
-    let m = c.args.a.now.memory in
-    let t = c.args.self.now.table in
-    let taken = c.requires.taken in
-    let within : c.args.at < t.slots =
-    omega (arith, slice_get_within (slots_in g.K.Item g.V.Item m t) c.args.at (Some taken.0) taken.1, c.requires.held.table.ordered.long) in
-    let some : 0 < t.slots = omega arith in (
-      given-whole m t.block (IsShape g.K.Item g.V.Item t.slots)
-          (handle-shape g.K.Item g.V.Item m t c.requires.keys_small c.requires.values_small c.requires.held.handle some),
-      within,
-    )
+write_with-requires-clause-suits g c = grind (arith, nat_tests, slice_get_within, given-whole, handle-shape)
 
 pub returns-clause-held : goal.returns-clause-held
 returns-clause-held g c =

@@ -1,7 +1,7 @@
+use Rattle.std.proofs.lemmas.Bool.Decides.{nat_tests}
 use Rattle.std.proofs.Common.{arith, refl}
 use Rattle.std.proofs.lemmas.Result.{err_from_is_err_and}
 use Rattle.hash_ring.proofs.PolicyLemmas.{slots-ring}
-use Rattle.arena_table.specs.Contents.{kind}
 use Rattle.arena_hash.specs.declared.map.HashMap.{HashMap}
 use Rattle.arena_hash.proofs.WholeLemmas.{places-none, places-table, places-refused}
 use Rattle.arena_hash.proofs.map.HashMap.with_capacity_and_hasher_in.Goals as goal
@@ -15,12 +15,7 @@ pub place-requires-clause-ring : goal.place-requires-clause-ring
 place-requires-clause-ring g c = slots-ring c.args.capacity _ (omega arith) c.slots_for.ensures
 
 pub returns-in_err-table-clause-placed : goal.returns-in_err-table-clause-placed
-returns-in_err-table-clause-placed g c =
-    let e = err_from_is_err_and c.from_residual.result c.from_residual.ensures.1 in
-    rw (e.1, e.2)
-    (places-refused (kind g.K.Item g.K.ArenaKey.key g.V.Item g.S.KeyHasher.hash_of) g.met.K.Item.layout g.met.V.Item.layout
-    c.requires.keys_small c.requires.values_small c.args.a.now _ c.args.capacity c.slots_for.result (omega arith) (omega arith)
-    c.slots_for.ensures _ c.in_err-table.ensures.asks c.in_err-table.ensures.err)
+returns-in_err-table-clause-placed g c = grind (arith, nat_tests, err_from_is_err_and, places-refused)
 
 pub returns-clause-placed : goal.returns-clause-placed
 returns-clause-placed g c =

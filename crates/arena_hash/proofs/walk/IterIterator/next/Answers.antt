@@ -1,3 +1,4 @@
+use Rattle.std.proofs.lemmas.Bool.Decides.{nat_tests}
 use Rattle.std.proofs.Common.{sym, ap, ◌∙◌, length, arith}
 use Rattle.std.proofs.lemmas.Option.{MatchOption-at_some, MatchOption-at_none}
 use Rattle.arena_table.proofs.WalkLemmas.{walk-groups, walk-ended, walk-less, walk-read, walk-some}
@@ -12,9 +13,7 @@ overflow_sub-self g c =
     (MatchOption-at_some _ _ c.in-Some.i c.in-Some.is c.step-slot.ensures.goes)
 
 pub invariant_of-self : goal.invariant_of-self
-invariant_of-self g c =
-    walk-less _ _ _ _ _ _ c.self.invariant _ c.step-slot.ensures.scan _
-    (MatchOption-at_some _ _ c.in-Some.i c.in-Some.is c.step-slot.ensures.goes)
+invariant_of-self g c = grind (arith, nat_tests, walk-less)
 
 pub invariant_of-self-in-None : goal.invariant_of-self-in-None
 invariant_of-self-in-None g c =
