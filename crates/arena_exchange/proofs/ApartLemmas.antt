@@ -3,10 +3,10 @@ use Rattle.std.proofs.Common.{List, [], ◌∷◌, ◌++◌}
 use Rattle.std.specs.Prelude.{IsPermutation}
 use Rattle.std.specs.List.{AllByRecursion}
 use Rattle.std.proofs.lemmas.List.Elements.{All-from_recursion, recursion_from_All}
-use Rattle.std.proofs.lemmas.List.Sorted.{All-permutation}
+use Rattle.std.proofs.lemmas.List.Sorted.{All-permutation, Contains-permutation, IsPermutation-sym}
 use Rattle.arena_chunks.specs.Frame.{IsApart, AreAllApart}
 use Rattle.arena_store.specs.declared.block.Block.{Block}
-use Rattle.arena_chunks.proofs.Layers.{blocks_turned}
+use Rattle.arena_chunks.proofs.Layers.{blocks_turned, all_of_both, all_among, all_each}
 
 -- What holds of each in a list holds of each in another order.
 pub all_in_order : {A : Type 0} (P : A → Type 0) (xs ys : List A) → IsPermutation xs ys → AllByRecursion P xs → AllByRecursion P ys
@@ -16,19 +16,13 @@ pub apart_to : (bs others : List Block) → AreAllApart bs others → AllByRecur
 apart_to [] others apart = tt
 apart_to (b ∷ bs) others apart = (apart.0, apart_to bs others apart.1)
 
-apart_from : (bs others : List Block) → AllByRecursion (λ (b : Block). IsApart b.addr b.size others) bs → AreAllApart bs others
-apart_from [] others apart = tt
-apart_from (b ∷ bs) others apart = (apart.0, apart_from bs others apart.1)
-
 pub apart_turned : (bs cs others : List Block) → IsPermutation bs cs → AreAllApart bs others → AreAllApart cs others
-apart_turned bs cs others same apart = apart_from cs others
-    (all_in_order (λ (b : Block). IsApart b.addr b.size others) bs cs same (apart_to bs others apart))
+apart_turned bs cs others same apart = all_each cs others (λ c among.
+    all_among bs others c apart (Contains-permutation cs bs c (IsPermutation-sym bs cs same) among))
 
 -- If the blocks of two lists are apart from others, those of each list are.
 pub apart_front : (bs cs others : List Block) → AreAllApart (bs ++ cs) others → AreAllApart bs others × AreAllApart cs others
-apart_front [] cs others apart = (tt, apart)
-apart_front (b ∷ bs) cs others apart =
-    let rest = apart_front bs cs others apart.1 in ((apart.0, rest.0), rest.1)
+apart_front bs cs others = (all_of_both bs cs others).0
 
 -- the first of the others, and the rest
 columns : (bs cs : List Block) (c : Block) → AreAllApart bs (c ∷ cs) → IsApart c.addr c.size bs × AreAllApart bs cs
@@ -39,8 +33,3 @@ columns (b ∷ bs) cs c all = let rest = columns bs cs c all.1 in ((blocks_turne
 pub all_turned : (bs cs : List Block) → AreAllApart bs cs → AreAllApart cs bs
 all_turned bs [] all = tt
 all_turned bs (c ∷ cs) all = let parts = columns bs cs c all in (parts.0, all_turned bs cs parts.1)
-
--- Blocks are apart from none.
-pub apart_of_none : (bs : List Block) → AreAllApart bs []
-apart_of_none [] = tt
-apart_of_none (b ∷ bs) = (tt, apart_of_none bs)

@@ -37,13 +37,12 @@ takes_after {old} {mid} same takes = record {
   then = takes.then;
 }
 
--- After the block was placed the call may go on in another way.
+-- After the block was placed the call may go on for further blocks. If it was refused it ends there.
 takes_on : {size align : ℕ} {old mid new : View} {bs cs : List Block} {end last : Option AllocError}
     {goes goes' : View → List Block → Type 0} → Takes size align old mid bs end goes
-    → ((between : View) (b : Block) (rest : List Block) → bs ≡ b ∷ rest → goes between rest
-    → (more : List Block) × (cs ≡ b ∷ more) × goes' between more)
-    → ((e : AllocError) → end ≡ Some e → bs ≡ [] → (last ≡ Some e) × (cs ≡ []) × (new ≡ mid))
-    → Takes size align old new cs last goes'
+    → ((between : View) (rest : List Block) → goes between rest → goes' between (rest ++ cs))
+    → ((e : AllocError) → end ≡ Some e → (last ≡ Some e) × (cs ≡ []) × (new ≡ mid))
+    → Takes size align old new (bs ++ cs) last goes'
 takes_on {mid} {new} {bs} {cs} {end} {last} {goes} {goes'} takes on stop = record {
   start = takes.start;
   between = takes.between;
@@ -54,10 +53,10 @@ takes_on {mid} {new} {bs} {cs} {end} {last} {goes} {goes'} takes on stop = recor
 }
   where
     follows : (answer : Answer) → Follows answer takes.between mid bs end (goes takes.between)
-        → Follows answer takes.between new cs last (goes' takes.between)
-    follows (Placed b) then = on takes.between b then.0 then.1 then.2
-    follows (Refused k) then = let s = stop (AllocErr k) then.0 then.1 in (s.0, s.1, s.2 ∙ then.2)
-    follows Exhausted then = let s = stop OutOfMemory then.0 then.1 in (s.0, s.1, s.2 ∙ then.2)
+        → Follows answer takes.between new (bs ++ cs) last (goes' takes.between)
+    follows (Placed b) then = (then.0 ++ cs, ap (λ bs. bs ++ cs) then.1, on takes.between then.0 then.2)
+    follows (Refused k) then = let s = stop (AllocErr k) then.0 in (s.0, rw then.1 s.1, s.2 ∙ then.2)
+    follows Exhausted then = let s = stop OutOfMemory then.0 in (s.0, rw then.1 s.1, s.2 ∙ then.2)
 
 -- ---- Writes
 
@@ -75,42 +74,32 @@ same_asked (TooMuch ∷ xs) old mid new bs end same asked = (asked.0, asked.1, s
 
 -- ---- One call after another
 
+-- A call and then another: it goes on if nothing was refused, and otherwise ends there.
+asked_on : (xs ys : List Ask) (old mid new : View) (bs cs : List Block) (end last : Option AllocError)
+    → AsksFor xs old mid bs end → (end ≡ None → AsksFor ys mid new cs last)
+    → ((e : AllocError) → end ≡ Some e → (last ≡ Some e) × (cs ≡ []) × (new ≡ mid)) → AsksFor (xs ++ ys) old new (bs ++ cs) last
+asked_on [] ys old mid new bs cs end last first on stop = rw first.1 (same_asked ys old mid new cs last first.2 (on first.0))
+asked_on (Room size align ∷ xs) ys old mid new bs cs end last first on stop =
+    takes_on first (λ between rest more. asked_on xs ys between mid new rest cs end last more on stop) stop
+asked_on (Table pairs slot align ∷ xs) ys old mid new bs cs end last (slots, are, first) on stop =
+    (slots, are, takes_on first (λ between rest more. asked_on xs ys between mid new rest cs end last more on stop) stop)
+asked_on (NoBytes ∷ xs) ys old mid new bs cs end last (b, rest, none, is, more) on stop =
+    (b, rest ++ cs, none, ap (λ bs. bs ++ cs) is, asked_on xs ys old mid new rest cs end last more on stop)
+asked_on (Empty align ∷ xs) ys old mid new bs cs end last (rest, is, more) on stop =
+    (rest ++ cs, ap (λ bs. bs ++ cs) is, asked_on xs ys old mid new rest cs end last more on stop)
+asked_on (TooMuch ∷ xs) ys old mid new bs cs end last first on stop =
+    let s = stop CapacityOverflow first.0 in (s.0, rw first.1 s.1, rw s.2 first.2)
+
 -- A call that is not refused, and then another, ask for what each of them asks for.
 pub asked_then : (xs ys : List Ask) (old mid new : View) (bs cs : List Block) (end : Option AllocError)
     → AsksFor xs old mid bs None → AsksFor ys mid new cs end → AsksFor (xs ++ ys) old new (bs ++ cs) end
-asked_then [] ys old mid new bs cs end first second = rw first.1 (same_asked ys old mid new cs end first.2 second)
-asked_then (Room size align ∷ xs) ys old mid new bs cs end first second = takes_on first
-    (λ between b rest is more. (rest ++ cs, ap (λ bs. bs ++ cs) is, asked_then xs ys between mid new rest cs end more second))
-    (λ e no none. absurd (cc no))
-asked_then (Table pairs slot align ∷ xs) ys old mid new bs cs end (slots, are, first) second = (
-  slots,
-  are,
-  takes_on first
-      (λ between b rest is more. (rest ++ cs, ap (λ bs. bs ++ cs) is, asked_then xs ys between mid new rest cs end more second))
-      (λ e no none. absurd (cc no)),
-)
-asked_then (NoBytes ∷ xs) ys old mid new bs cs end (b, rest, none, is, more) second =
-    (b, rest ++ cs, none, ap (λ bs. bs ++ cs) is, asked_then xs ys old mid new rest cs end more second)
-asked_then (Empty align ∷ xs) ys old mid new bs cs end (rest, is, more) second =
-    (rest ++ cs, rw is refl, asked_then xs ys old mid new rest cs end more second)
-asked_then (TooMuch ∷ xs) ys old mid new bs cs end first second = absurd (let no = first.0 in cc)
+asked_then xs ys old mid new bs cs end first second = asked_on xs ys old mid new bs cs None end first (λ is. second) (λ e no. absurd (cc))
 
 -- A call that is refused is so with further blocks that it no longer asks for.
 pub asked_refused : (xs ys : List Ask) (old new : View) (bs : List Block) (e : AllocError) → AsksFor xs old new bs (Some e)
     → AsksFor (xs ++ ys) old new bs (Some e)
-asked_refused [] ys old new bs e asked = absurd (let no = asked.0 in cc)
-asked_refused (Room size align ∷ xs) ys old new bs e asked = takes_on asked
-    (λ between b rest is more. (rest, is, asked_refused xs ys between new rest e more)) (λ k is none. (is, none, refl))
-asked_refused (Table pairs slot align ∷ xs) ys old new bs e (slots, are, asked) = (
-  slots,
-  are,
-  takes_on asked
-      (λ between b rest is more. (rest, is, asked_refused xs ys between new rest e more)) (λ k is none. (is, none, refl)),
-)
-asked_refused (NoBytes ∷ xs) ys old new bs e (b, rest, none, is, more) =
-    (b, rest, none, is, asked_refused xs ys old new rest e more)
-asked_refused (Empty align ∷ xs) ys old new bs e (rest, is, more) = (rest, is, asked_refused xs ys old new rest e more)
-asked_refused (TooMuch ∷ xs) ys old new bs e asked = asked
+asked_refused xs ys old new bs e asked = simp append-nil at
+    (asked_on xs ys old new new bs [] (Some e) (Some e) asked (λ no. absurd (cc)) (λ k is. (is, refl, refl)))
 
 -- Bytes may be written afterwards, if nothing was refused.
 pub asked_same : (xs : List Ask) (old mid new : View) (bs : List Block) → AsksFor xs old mid bs None → SamePlaces mid new
@@ -140,9 +129,6 @@ one_asked f (Err (AllocErr refused)) size align old new placed = takes_one (Refu
 one_asked f (Err OutOfMemory) size align old new placed = takes_one Exhausted placed (refl, refl, refl)
 one_asked f (Err CapacityOverflow) size align old new placed = absurd placed
 
-pub view_same : (v w : View) → v.memory ≡ w.memory → v.source ≡ w.source → v ≡ w
-view_same v w memory source = λ i. record { memory = memory i; source = source i }
-
 -- even if other bytes were written after it.
 pub took_asked : {X : Type 0} (f : X → Block) (size align : ℕ) (old new : View) (result : Result X AllocError)
     → Took new (λ between. RoomAnswer f result (PlacesBlock old between size align)) → OnErr result (new.memory ≡ old.memory)
@@ -150,6 +136,7 @@ pub took_asked : {X : Type 0} (f : X → Block) (size align : ℕ) (old new : Vi
 took_asked f size align old new (Ok x) took same =
     asked_same (Room size align ∷ []) old took.between new (f x ∷ []) (one_asked f (Ok x) size align old took.between took.took) took.places
 took_asked f size align old new (Err e) took same =
-    subst (λ v. AsksFor (Room size align ∷ []) old v [] (Some e))
-    (view_same took.between new (refusal_leaves f e size align old took.between took.took ∙ sym same) (sym took.places.source))
-    (one_asked f (Err e) size align old took.between took.took)
+    let memory : took.between.memory ≡ new.memory = refusal_leaves f e size align old took.between took.took ∙ sym same in
+    let source = sym took.places.source in
+    let is : took.between ≡ new = λ i. record { memory = memory i; source = source i } in
+    subst (λ v. AsksFor (Room size align ∷ []) old v [] (Some e)) is (one_asked f (Err e) size align old took.between took.took)

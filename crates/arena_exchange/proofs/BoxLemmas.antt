@@ -1,8 +1,9 @@
 -- Boxes of new values, and of values that are replaced by new ones.
-use Rattle.std.proofs.Common.{ap, sym, refl, subst, ◌∙◌, List, [], ◌∷◌, ◌++◌, Ok, Err}
-use Rattle.std.specs.Prelude.{Result, IsPermutation}
+use Rattle.std.proofs.Common.{refl, List, [], ◌∷◌, ◌++◌, Ok, Err}
+use Rattle.std.specs.Prelude.{Result}
 use Rattle.std.proofs.lemmas.List.Sorted.{IsPermutation-append_left}
 use Rattle.arena_chunks.specs.Source.{View}
+use Rattle.arena_chunks.proofs.Layers.{all_from_none}
 use Rattle.arena_store.specs.declared.block.Block.{Block}
 use Rattle.arena_items.specs.declared.item.Item.{Ghosts}
 use Rattle.arena_items.specs.declared.boxes.Box.{Box}
@@ -13,14 +14,13 @@ use Rattle.arena_exchange.specs.Kinds.{Kind, box_of}
 use Rattle.arena_exchange.specs.KindLaws.{IsLawful}
 use Rattle.arena_exchange.specs.Copies.{IsMade, MakesNew}
 use Rattle.arena_exchange.specs.Dummies.{Boxes, TakesBox}
-use Rattle.arena_exchange.proofs.ApartLemmas.{apart_of_none}
 use Rattle.arena_exchange.proofs.AsksLemmas.{block_of}
 use Rattle.arena_exchange.proofs.MadeLemmas.{made_stays, made_readable, places_then, places_refused, places_one}
 
 -- A value that was made is as it is after another was placed in a box.
 stays : {T : Type 0} {item : Ghosts T} {kind : Kind T} (is : IsLawful kind) {meaning : kind.Whole} {mid new : View} {blocks : List Block}
     {v w : T} {b : Box T} → IsMade kind meaning mid.memory blocks w → Boxes item mid new v (Ok b) → IsMade kind meaning new.memory blocks w
-stays is {blocks} made boxes = made_stays is boxes.placed.1.outcome.frame made (apart_of_none blocks)
+stays is {blocks} made boxes = made_stays is boxes.placed.1.outcome.frame made (all_from_none blocks)
 
 module _ {T : Type 0} {item : Ghosts T} {kind : Kind T} (is : IsLawful kind) {meaning : kind.Whole} {asks : List Ask} {old mid new : View}
     {w : T} (makes : MakesNew kind meaning asks old mid (Ok w)) where
@@ -42,11 +42,10 @@ module _ {T : Type 0} {item : Ghosts T} {kind : Kind T} (is : IsLawful kind) {me
         blocks = makes.blocks ++ b.block ∷ [];
         placed = placed_box boxes;
         made = record {
-          held = (boxes.held, subst (kind.is_held new.memory) (sym same) whole.held);
-          means = ap (kind.whole new.memory) same ∙ whole.means;
-          trim = subst (kind.is_trim new.memory) (sym same) whole.trim;
-          deep = subst (λ ds. IsPermutation (ds ++ b.block ∷ []) (makes.blocks ++ b.block ∷ [])) (sym (ap (kind.deep new.memory) same))
-              (IsPermutation-append_left (b.block ∷ []) (kind.deep new.memory w) makes.blocks whole.deep);
+          held = (boxes.held, rw same whole.held);
+          means = rw same whole.means;
+          trim = rw same whole.trim;
+          deep = rw same (IsPermutation-append_left (b.block ∷ []) (kind.deep new.memory w) makes.blocks whole.deep);
         };
       }
 

@@ -1,6 +1,7 @@
 -- The lemmas that crates above cite: blocks that are apart, calls that ask for one block after another, what calls
 -- leave of values at every depth, and values that are made.
-pub use Rattle.arena_exchange.proofs.ApartLemmas.{all_in_order, apart_to, apart_turned, apart_front, apart_of_none, all_turned}
+pub use Rattle.arena_chunks.proofs.Layers.{all_from_none as apart_of_none}
+pub use Rattle.arena_exchange.proofs.ApartLemmas.{all_in_order, apart_to, apart_turned, apart_front, all_turned}
 pub use Rattle.arena_exchange.proofs.AsksLemmas.{same_places, same_asked, asked_then, asked_refused, asked_same, took_asked, block_of}
 pub use Rattle.arena_exchange.proofs.MadeLemmas.{
   deep_agree,

@@ -1,5 +1,5 @@
 -- Values at every depth: what calls leave of them, and calls that make new ones.
-use Rattle.std.proofs.Common.{◌≡◌, ℕ, ap, sym, refl, subst, ◌∙◌, Option, Some, None, List, [], ◌∷◌, ◌++◌, Ok, Err, IsTrue}
+use Rattle.std.proofs.Common.{◌≡◌, ℕ, sym, refl, subst, ◌∙◌, Option, Some, None, List, [], ◌∷◌, ◌++◌, Ok, Err, IsTrue}
 use Rattle.std.specs.Prelude.{Result, IfOk, IsPermutation}
 use Rattle.std.proofs.lemmas.List.Sorted.{IsPermutation-sym, IsPermutation-refl}
 use Rattle.arena_chunks.specs.Memory.{Memory, is_readable}
@@ -7,7 +7,7 @@ use Rattle.arena_chunks.specs.Source.{View}
 use Rattle.arena_chunks.specs.BlockCalls.{PlacesBlock}
 use Rattle.arena_chunks.specs.Frame.{Frame, AreAllApart, ArePairwiseApart}
 use Rattle.arena_store.specs.declared.block.Block.{Block}
-use Rattle.arena_chunks.proofs.Layers.{empty_after, apart_both, pairwise_both, frame_reflexive, frame_then, frame_weaken, frame_keeps_all}
+use Rattle.arena_chunks.proofs.Layers.{all_from_none, empty_after, apart_both, pairwise_both, frame_reflexive, frame_then, frame_weaken, frame_keeps_all}
 use Rattle.arena_items.specs.Footprint.{AreReadable, Agree}
 use Rattle.arena_items.specs.Room.{RoomAnswer}
 use Rattle.arena_items.specs.declared.item.Item.{Ghosts}
@@ -16,10 +16,10 @@ use Rattle.arena_items.proofs.Layers.{stays_readable, stays_agree, stays_apart}
 use Rattle.arena_vec.specs.Held.{empty_block}
 use Rattle.arena_exchange.specs.Asks.{Ask, PlacesAll, refusal}
 use Rattle.arena_exchange.specs.Asks.Ask.{Room, Empty}
-use Rattle.arena_exchange.specs.Kinds.{Kind, plain, row_of, row_in}
+use Rattle.arena_exchange.specs.Kinds.{Kind, plain, row_in}
 use Rattle.arena_exchange.specs.KindLaws.{IsLawful}
 use Rattle.arena_exchange.specs.Copies.{IsMade, MakesNew, StaysWhole}
-use Rattle.arena_exchange.proofs.ApartLemmas.{all_in_order, apart_turned, apart_of_none}
+use Rattle.arena_exchange.proofs.ApartLemmas.{all_in_order, apart_turned}
 use Rattle.arena_exchange.proofs.AsksLemmas.{same_places, asked_then, asked_refused, block_of, refusal_leaves, one_asked}
 
 -- ---- Values that a call leaves alone
@@ -69,12 +69,12 @@ made_readable {kind} is {m} {blocks} {w} made =
 -- A value is what it was when blocks are placed.
 pub placed_stays : {T : Type 0} {kind : Kind T} (is : IsLawful kind) {old new : Memory} {blocks : List Block} (v : T)
     → Frame old new [] blocks → kind.is_held old v → StaysWhole kind old new blocks v
-placed_stays {kind} is {old} v frame held = deep_stays is frame v held (apart_of_none (kind.deep old v))
+placed_stays {kind} is {old} v frame held = deep_stays is frame v held (all_from_none (kind.deep old v))
 
 -- Readable blocks are apart from those that a call places.
 pub beside_new : (old new : Memory) (bs after : List Block) → AreReadable old.state bs → Frame old new [] after → AreAllApart bs after
 beside_new old new bs after readable frame =
-    stays_apart old new after bs (frame_keeps_all old new [] after bs frame readable (apart_of_none bs))
+    stays_apart old new after bs (frame_keeps_all old new [] after bs frame readable (all_from_none bs))
 
 -- Blocks placed after others, which are readable, are placed with them.
 pub frame_more : (old mid new : Memory) (bs cs : List Block) → Frame old mid [] bs → Frame mid new [] cs → Frame old new [] (bs ++ cs)
@@ -102,13 +102,12 @@ one_apart f (Err e) = tt
 pub places_one : {X : Type 0} (f : X → Block) (result : Result X AllocError) {size align : ℕ} {old new : View}
     → RoomAnswer f result (PlacesBlock old new size align)
     → PlacesAll (Room size align ∷ []) old new (block_of f result) (refusal result)
-places_one f result {size} {align} {old} {new} placed =
-    record { asked = one_asked f result size align old new placed; apart = one_apart f result; frame = frame result placed }
-  where
-    frame : (result : Result _ AllocError) → RoomAnswer f result (PlacesBlock old new size align)
-        → Frame old.memory new.memory [] (block_of f result)
-    frame (Ok x) placed = placed.1.outcome.frame
-    frame (Err e) placed = rw (refusal_leaves f e size align old new placed) (frame_reflexive old.memory [])
+places_one f (Ok x) placed = record { asked = one_asked f (Ok x) _ _ _ _ placed; apart = (tt, tt); frame = placed.1.outcome.frame }
+places_one f (Err e) {size} {align} {old} {new} placed = record {
+  asked = one_asked f (Err e) size align old new placed;
+  apart = tt;
+  frame = rw (refusal_leaves f e size align old new placed) (frame_reflexive old.memory []);
+}
 
 -- ---- Calls that make values
 
@@ -157,10 +156,8 @@ pub makes_no_values : {V T : Type 0} (item : Ghosts T) (block : V → Block) (is
     → values a.memory w ≡ [] → is_trim w → MakesNew (row_in item plain block is_in values is_trim ask) [] (Empty align ∷ []) a a (Ok w)
 makes_no_values item block is_in values is_trim ask align a w held at none trim =
     makes_empty (record {
-      held = (held, subst (λ vs. (row_of plain).is_held a.memory vs) (sym none) tt);
-      means = ap ((row_of plain).whole a.memory) none;
-      trim = (trim, subst (λ vs. (row_of plain).is_trim a.memory vs) (sym none) tt);
-      deep = subst (λ b. IsPermutation (b ∷ (row_of plain).deep a.memory (values a.memory w)) (empty_block align ∷ [])) (sym at)
-          (subst (λ vs. IsPermutation (empty_block align ∷ (row_of plain).deep a.memory vs) (empty_block align ∷ [])) (sym none)
-          (IsPermutation-refl (empty_block align ∷ [])));
+      held = (held, rw none tt);
+      means = rw none refl;
+      trim = (trim, rw none tt);
+      deep = rw (at, none) (IsPermutation-refl (empty_block align ∷ []));
     })
