@@ -22,14 +22,7 @@ use Rattle.arena_symbols.proofs.ScopeLemmas.{first_most}
 use Rattle.arena_symbols.proofs.TableLemmas.{entry_size, length_recent, depth_is, counted_pairs}
 
 pub more_asked : {few many : ℕ} → few ≤ many → (size align : ℕ) → NamesAsk few size align → NamesAsk many size align
-more_asked less size align asks = record {
-  part = asks.part;
-  part_align = asks.part_align;
-  is_part = asks.is_part;
-  parts = asks.parts;
-  few = omega (arith, asks.few, less);
-  layout = asks.layout;
-}
+more_asked less size align asks = grind (arith, nat_tests)
 
 -- A block of this many values, or none.
 abbrev IsRow : (most value_size value_align size align : ℕ) → Type 0
@@ -77,14 +70,7 @@ table_within value_size value_align slots len false size align few room = by (na
 
 row_asks : {few most part part_align size align : ℕ} → IsPart part part_align → few ≤ most → IsRow few part part_align size align
     → NamesAsk most size align
-row_asks {few} {most} {part} {part_align} is_part less row = record {
-  part = part;
-  part_align = part_align;
-  is_part = is_part;
-  parts = row.0;
-  few = omega (arith, row.1, less);
-  layout = row.2;
-}
+row_asks {few} {most} {part} {part_align} is_part less row = grind (arith, nat_tests)
 
 module _ (new : View) (count : ℕ) (few : count < 2 ^ 31) where
   -- a text

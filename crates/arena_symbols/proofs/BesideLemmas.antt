@@ -1,13 +1,12 @@
 -- What a call on other blocks leaves of maps, of vectors and of texts.
-use Rattle.std.proofs.Common.{◌≡◌, ℕ, List, [], ◌∷◌, map, sym, ap, refl}
+use Rattle.std.proofs.lemmas.Bool.Decides.{nat_tests}
+use Rattle.std.proofs.Common.{arith, ◌≡◌, ℕ, List, [], ◌∷◌, map, sym, refl}
 use Rattle.arena_chunks.specs.Memory.{Memory}
 use Rattle.arena_chunks.specs.Frame.{Frame, IsApart, AreAllApart}
 use Rattle.arena_store.specs.declared.block.Block.{Block}
 use Rattle.arena_chunks.specs.declared.allocator.text.Str.{Str}
 use Rattle.arena_chunks.proofs.Layers.{apart_empty, frame_keeps, frame_keeps_all}
 use Rattle.arena_items.specs.Footprint.{AreReadable}
-use Rattle.arena_items.specs.FootprintLaws.{held_again}
-use Rattle.arena_items.specs.Values.{elements}
 use Rattle.arena_items.specs.declared.item.Item.{Ghosts}
 use Rattle.arena_items.proofs.Layers.{stays_readable, stays_agree, stays_apart}
 use Rattle.arena_vec.specs.Vecs.{IsVecIn, vec_list}
@@ -48,13 +47,7 @@ module _ {old new : Memory} {before after : List Block} (frame : Frame old new b
 
   pub vec_beside : {T : Type 0} (item : Ghosts T) (v : Vec T) → IsVecIn item old v → IsApart v.raw.block.addr v.raw.block.size before
       → VecStays old new after item v
-  vec_beside item v held apart =
-      let stays = frame_keeps old new before after v.raw.block frame held.place.readable apart in
-      record {
-        held = record { place = held_again _ _ _ _ v.raw.block held.place stays.readable; within = held.within; no_bytes = held.no_bytes };
-        list_is = ap (elements item.SIZE item.decoded v.raw.len) stays.bytes;
-        apart = stays.apart;
-      }
+  vec_beside item v held apart = grind (arith, nat_tests, frame_keeps)
 
   pub texts_beside : (list : List Str) → AreReadable old.state (blocks_of list) → AreAllApart (blocks_of list) before
       → TextsStay old new after list

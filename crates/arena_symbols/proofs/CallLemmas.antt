@@ -1,5 +1,5 @@
 -- Calls on the names of a program.
-use Rattle.std.proofs.Common.{nat_le, le-leb, ◌≡◌, ℕ, ◌^◌, ◌-◌, ◌<◌, List, [], ◌∷◌, ◌++◌, length, get_or, take, refl, sym, ap, ◌∙◌, arith, inl, inr, Some, Ok, Err, Bool, append_assoc, ◌+◌}
+use Rattle.std.proofs.Common.{nat_le, le-leb, ◌≡◌, ℕ, ◌^◌, ◌-◌, ◌<◌, List, [], ◌∷◌, ◌++◌, length, get_or, take, refl, ap, ◌∙◌, arith, inl, inr, Some, Ok, Err, Bool, append_assoc, ◌+◌}
 use Rattle.std.specs.Prelude.{◌↔◌, ◌⊎◌, Result, IfOk, IfErr, OnOk, OnErr}
 use Rattle.std.specs.Borrow.{Bor}
 use Rattle.std.proofs.lemmas.Bool.Decides.{nat_tests}
@@ -32,9 +32,7 @@ use Rattle.arena_symbols.proofs.PayLemmas.{told, told_err, pays_nothing, pays_pl
 -- ---- Replies
 
 outer_is : (scopes : List (List (ℕ × ℕ))) → has_outer scopes ≡ nat_le 2 (length scopes)
-outer_is [] = refl
-outer_is (scope ∷ []) = refl
-outer_is (scope ∷ (next ∷ outer)) = sym (le-leb 2 (length (scope ∷ (next ∷ outer))) (omega arith))
+outer_is scopes = grind (arith, nat_tests, le-leb)
 
 abbrev ok_reply : Reply → Result Reply AllocError
 ok_reply reply = Ok reply
@@ -59,10 +57,7 @@ serves_read old n call (Err CapacityOverflow) held is same never copies = absurd
 -- What a call that adds may be refused with.
 may_answer : {X : Type 0} (s : State) (call : Call) (result : Result X AllocError) → OnErr result (Adds s call)
     → (result ≡ Err CapacityOverflow → IsFull s call) → IfErr result (MayAnswer s call)
-may_answer s call (Ok x) adds full = tt
-may_answer s call (Err CapacityOverflow) adds full = full refl
-may_answer s call (Err (AllocErr k)) adds full = adds
-may_answer s call (Err OutOfMemory) adds full = inl adds
+may_answer s call result adds full = grind (arith, nat_tests)
 
 module _ {X : Type 0} {old new : View} {n m : Names} {call : Call} where
   -- A call that moved the names, by its result.

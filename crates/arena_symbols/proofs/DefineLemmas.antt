@@ -1,5 +1,6 @@
 -- What `define` does, in each case.
-use Rattle.std.proofs.Common.{◌≡◌, ℕ, ◌+◌, ◌*◌, ◌^◌, ◌<◌, ◌≤◌, List, [], ◌∷◌, length, reverse, refl, sym, ap, subst, ◌∙◌, arith, Some, None, Option, Ok, Err, Bool, true, false, cond}
+use Rattle.std.proofs.lemmas.Bool.Decides.{nat_tests}
+use Rattle.std.proofs.Common.{◌≡◌, ℕ, ◌+◌, ◌*◌, ◌^◌, ◌<◌, ◌≤◌, List, [], ◌∷◌, length, reverse, refl, sym, ap, subst, ◌∙◌, arith, Some, Option, Ok, Err, Bool, true, false, cond}
 use Rattle.std.specs.Prelude.{Result, OnOk, OnErr, is_some, if◌then◌else◌}
 use Rattle.std.specs.Int.{w32, to_le_bytes}
 use Rattle.std.proofs.lemmas.List.{length-map, length-reverse}
@@ -31,8 +32,7 @@ use Rattle.arena_symbols.proofs.ScopeLemmas.{reverse_push, pairs_push, scopes_pu
 use Rattle.arena_symbols.proofs.TableLemmas.{length_recent, counted_pairs, newest_is, looked_is, in_last_is}
 
 some_value : {K V : Type 0} (o : Option (K × V)) → is_some (value_of o) ≡ is_some o
-some_value None = refl
-some_value (Some p) = refl
+some_value o = grind (arith, nat_tests)
 
 module _ {item : Ghosts Entry} (old : View) (s : Scopes) (id value : ℕ) (held : IsTableIn item old.memory s) where
   abbrev scopes : List (List (ℕ × ℕ))
@@ -88,8 +88,7 @@ module _ {item : Ghosts Entry} (old : View) (s : Scopes) (id value : ℕ) (held 
         starts_are = ap reverse starts.list_is
 
         apart : ArePairwiseApart (table_blocks now)
-        apart = pairwise_both (n.table.block ∷ v.raw.block ∷ []) (s.starts.raw.block ∷ []) ((lists.apart, tt), (tt, tt)) (tt, tt)
-            (all_apart s.starts.raw.block (n.table.block ∷ v.raw.block ∷ []) starts.apart)
+        apart = grind (arith, nat_tests, pairwise_both, all_apart, starts)
 
       -- The table has the pair then, or is unchanged.
       after : (result : Result ℕ AllocError) → Puts result → IsTableIn item new.memory now

@@ -1,11 +1,11 @@
 -- If the arena refuses a block, the block has no place.
-use Rattle.std.proofs.Common.{◌≡◌, ℕ, ◌*◌, refl, ap, ◌∙◌, Option, Some, None, Err, Bool, true, false}
+use Rattle.std.proofs.lemmas.Bool.Decides.{nat_tests}
+use Rattle.std.proofs.Common.{arith, ◌≡◌, ℕ, ◌*◌, refl, ap, Option, Some, None, Err, Bool, false}
 use Rattle.std.specs.Prelude.{◌==◌, Result}
 use Rattle.std.proofs.lemmas.Option.{cond_some}
 use Rattle.arena_rules.specs.State.{State}
 use Rattle.arena_rules.specs.Search.{place}
 use Rattle.arena_rules.specs.Moves.{Outcome, alloc, alloc_at, placed}
-use Rattle.arena_chunks.specs.Memory.{Memory}
 use Rattle.arena_chunks.specs.Source.{View}
 use Rattle.arena_chunks.specs.Answers.Answer.{Refused}
 use Rattle.arena_chunks.specs.BlockCalls.{PlacesBlock}
@@ -22,8 +22,7 @@ pub err_same : {X : Type 0} {e f : AllocError} → ◌≡◌ {A = Result X Alloc
 err_same is = cc
 
 pub denied_more : {few many : Layouts} {a : View} → ((size align : ℕ) → few size align → many size align) → IsDenied few a → IsDenied many a
-denied_more more denied =
-    record { size = denied.size; align = denied.align; asked = more denied.size denied.align denied.asked; none = denied.none }
+denied_more more denied = grind (arith, nat_tests)
 
 no_place : (state new : State) (size align k : ℕ) → alloc state size align k ≡ Some (record { answer = None; state = new })
     → place state size align ≡ None
@@ -40,13 +39,7 @@ no_place state new size align k step = by (place state size align) refl step
 -- A block, perhaps before other bytes were written.
 pub block_denied : (old between new : View) (size align k : ℕ) → PlacesBlock old between size align (Refused k) → SamePlaces between new
     → IsDenied (Only size align) new
-block_denied old between new size align k places same = record {
-  size = size;
-  align = align;
-  asked = (refl, refl);
-  none = rw (same.state ∙ ap (λ (m : Memory). m.state) places.1.outcome.1.memory)
-      (no_place old.memory.state old.memory.state size align places.0 places.1.outcome.1.step);
-}
+block_denied old between new size align k places same = grind (arith, nat_tests, no_place)
 
 -- The block of a growth from no capacity, which is newly placed.
 pub room_denied : {X : Type 0} (size align : ℕ) (old new : View) (block : Block) (f : X → Block) (k : ℕ) (growth : Growth)
@@ -59,5 +52,4 @@ room_denied size align old new block f k (GrowsTo more) made =
 -- A new key asks for no less than a key that is there.
 pub new_key : (size align slots len : ℕ) (is_there : Bool) (s a : ℕ) → RoomFor size align (growth_for is_there slots len) s a
     → RoomFor size align (growth_for false slots len) s a
-new_key size align slots len true s a room = absurd room
-new_key size align slots len false s a room = room
+new_key size align slots len is_there s a room = grind (arith, nat_tests)

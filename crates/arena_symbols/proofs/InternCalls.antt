@@ -1,5 +1,6 @@
 -- What `intern` does, in each case.
-use Rattle.std.proofs.Common.{◌≡◌, ℕ, ◌+◌, ◌^◌, ◌<◌, ◌≤◌, List, [], ◌∷◌, ◌++◌, length, refl, sym, ap, ◌∙◌, arith, inl, inr, Bool, false, Some, None, Ok, Err, append-nil}
+use Rattle.std.proofs.lemmas.Bool.Decides.{nat_tests}
+use Rattle.std.proofs.Common.{◌≡◌, ℕ, ◌+◌, ◌^◌, ◌<◌, ◌≤◌, List, [], ◌∷◌, ◌++◌, length, refl, ap, ◌∙◌, arith, inl, inr, Bool, false, Some, None, Ok, Err, append-nil}
 use Rattle.std.specs.Prelude.{Result, ◌↔◌}
 use Rattle.std.proofs.lemmas.Slice.Eq.{bytes_eq-Decides}
 use Rattle.arena_chunks.specs.Memory.{Memory}
@@ -41,11 +42,7 @@ module _ (old : View) (s : Symbols) (text : List ℕ) (held : IsInternerIn old.m
 
   -- The text is there.
   pub interns_known : (n : ℕ) → number_of names text ≡ Some n → Interns old old s s text (Ok n)
-  interns_known n is =
-      let pays = pays_nothing {X = ℕ} far_up (1024 + length text) (names_credit s) old (Ok n) (λ k no. cc) in
-      let texts : (more : List Block) × KeepsTexts old old s s more =
-      ([], record { blocks = sym (append-nil (blocks_of list)); frame = frame_reflexive _ _ }) in
-      grind (arith, is, pays, texts)
+  interns_known n is = grind (arith, nat_tests, pays_nothing, append-nil, frame_reflexive)
 
   -- If refused, it has the blocks of its texts from before.
   interns_not : (new : View) (u : Symbols) (e : AllocError) → number_of names text ≡ None → IsInternerIn new.memory u
@@ -54,12 +51,7 @@ module _ (old : View) (s : Symbols) (text : List ℕ) (held : IsInternerIn old.m
       → ((k : ℕ) → e ≡ AllocErr k → IsTextDenied old new u text)
       → Pays {X = ℕ} far_up (1024 + length text) (names_credit s) (names_credit u) old new (Err e)
       → Frame old.memory new.memory (own_blocks s) (own_blocks u) → Interns old new s u text (Err e)
-  interns_not new u e none still same kept full denied pays frame =
-      let denied : (k : ℕ) → (◌≡◌ {A = Result ℕ AllocError} (Err e) (Err (AllocErr k))) → IsTextDenied old new u text =
-      λ k is. denied k (err_same is) in
-      let texts : (more : List Block) × KeepsTexts old new s u more =
-      ([], record { blocks = ap blocks_of same ∙ sym (append-nil (blocks_of list)); frame = frame }) in
-      grind (arith, none, still, kept, full, denied, pays, texts)
+  interns_not new u e none still same kept full denied pays frame = grind (arith, nat_tests, err_same, append-nil)
 
   -- There are as many texts as there can be.
   pub interns_full : number_of names text ≡ None → most_texts ≤ s.texts.raw.len → Interns old old s s text (Err CapacityOverflow)
@@ -97,10 +89,7 @@ module _ (old : View) (s : Symbols) (text : List ℕ) (held : IsInternerIn old.m
       stays = interner_beside s places.1.outcome.frame held (all_from_none (names_footprint old.memory s))
 
       fresh : IsNewText mid.memory s t
-      fresh =
-          let numbers = blocks_turned s.numbers.table.block t.block stays.apart.0.0 in
-          let list = blocks_turned s.texts.raw.block t.block stays.apart.1.0.0 in
-          grind (arith, places.1.outcome.of_layout.readable, numbers, list, stays.names, bytes, none)
+      fresh = grind (arith, nat_tests, blocks_turned, stays)
 
       pub can_list : CanList name_kind.keys name_kind mid.memory s.numbers s.texts t
       can_list = can_append stays.held few fresh
@@ -123,8 +112,7 @@ module _ (old : View) (s : Symbols) (text : List ℕ) (held : IsInternerIn old.m
 
         one_more : (is_there : Bool) (size align : ℕ) → OneMore name_kind.keys name_kind is_there v n size align
             → OneMore name_kind.keys name_kind false v n size align
-        one_more is_there size align (inl long) = inl long
-        one_more is_there size align (inr larger) = inr (new_key _ _ n.table.slots n.len is_there size align larger)
+        one_more is_there size align h = grind (arith, nat_tests, new_key)
 
         -- and then it is appended, or not.
         pub interns_placed : (result : Result ℕ AllocError)

@@ -1,4 +1,5 @@
 -- The innermost map is ended.
+use Rattle.std.proofs.lemmas.Bool.Decides.{nat_tests}
 use Rattle.std.proofs.Common.{◌≡◌, ℕ, ◌-◌, ◌<◌, ◌≤◌, ◌∷◌, length, take, subst, arith, true, false}
 use Rattle.std.specs.Prelude.{◌==◌}
 use Rattle.std.proofs.lemmas.Bool.{eqb-false}
@@ -13,7 +14,7 @@ use Rattle.arena_vec.specs.declared.vec.Vec.{Vec}
 use Rattle.arena_symbols.specs.Listing.{place_item}
 use Rattle.arena_symbols.specs.Scoping.{AreStarts, start_in}
 use Rattle.arena_symbols.specs.TableCalls.{Cuts, Leaves}
-use Rattle.arena_symbols.specs.Tables.{Entry, entries_in, recent_in, starts_in, table_blocks, IsTableIn}
+use Rattle.arena_symbols.specs.Tables.{Entry, recent_in, starts_in, table_blocks, IsTableIn}
 use Rattle.arena_symbols.specs.declared.scopes.Scopes.{Scopes}
 use Rattle.arena_symbols.proofs.PayLemmas.{credit_less}
 use Rattle.arena_symbols.proofs.ScopeLemmas.{start_within, less_starts, reverse_front}
@@ -37,19 +38,14 @@ module _ {item : Ghosts Entry} (old : View) (s : Scopes) (v : Vec ℕ) (k : ℕ)
   fewer = rw cut.len (simp (length-take, length-elements) (omega arith))
 
   starts_are : starts_in old.memory s ≡ s.start ∷ starts_in old.memory outer
-  starts_are =
-      let front = reverse_front (vec_list place_item old.memory s.starts) (s.starts.raw.len - 1) in
-      grind (arith, held.start, cut.list_is, front, length-elements, positive)
+  starts_are = grind (arith, nat_tests, reverse_front, length-elements, positive)
 
   begin : AreStarts (length (recent_in item old.memory s)) (s.start ∷ starts_in old.memory outer)
   begin = subst (AreStarts (length (recent_in item old.memory s))) starts_are held.begins
 
   -- Without the innermost map's start it is still a table, whose pairs from there on are one map's.
   pub outer_held : IsTableIn item old.memory outer
-  outer_held =
-      let begins = less_starts s.start (length (recent_in item old.memory s)) (starts_in old.memory outer)
-      (omega (arith, begin.0, start_within s.start (starts_in old.memory outer) begin.1)) begin.1 in
-      grind (arith, held, begins, is, cut.held, cut.block, fewer)
+  outer_held = grind (arith, nat_tests, less_starts, begin, start_within, fewer)
 
   pub inner_start : k ≤ s.start
   inner_start = omega (arith, is, start_within s.start (starts_in old.memory outer) begin.1)
@@ -59,7 +55,4 @@ module _ {item : Ghosts Entry} (old : View) (s : Scopes) (v : Vec ℕ) (k : ℕ)
 
   -- They are removed too.
   pub left : (new : View) (t : Scopes) → Cuts item old new outer t s.start → Leaves item old new s t true
-  left new t cuts =
-      let less = credit_less 4 v.raw.len s.starts.raw.len s.starts.raw.cap v.raw.cap fewer (omega (arith, cut.cap)) in
-      let front = take-map {Y = ℕ × ℕ} (λ (e : Entry). (e.0, e.1.0)) s.start (entries_in item old.memory s) in
-      grind (arith, cuts, front, starts_are, depth_is item old.memory s, positive, less, cut.block)
+  left new t cuts = grind (arith, nat_tests, credit_less, fewer, take-map, starts_are, depth_is, positive)

@@ -1,4 +1,5 @@
 -- An interner and a scoped table in one arena.
+use Rattle.std.proofs.lemmas.Bool.Decides.{nat_tests}
 use Rattle.std.proofs.Common.{◌≡◌, ℕ, List, [], ◌∷◌, ◌++◌, refl, sym, ap, ◌∙◌, inl, inr, Some, Ok, Err, Bool, true, false, ◌<◌, ◌≤◌, length, arith, None, ◌+◌, ◌-◌, ◌^◌}
 use Rattle.std.specs.Prelude.{if◌then◌else◌, not, Result, IfOk, ◌↔◌, ◌⊎◌}
 use Rattle.std.proofs.lemmas.Result.{IfOk-weaker}
@@ -15,7 +16,7 @@ use Rattle.arena_items.specs.declared.room.AllocError.TheVariants.{AllocErr, Cap
 use Rattle.arena_items.proofs.Layers.{stays_readable, stays_agree, stays_apart, costs_weaken, costs_ok, costs_then}
 use Rattle.arena_symbols.specs.Interner.{number_of, most_texts}
 use Rattle.arena_symbols.specs.Interning.{IsTextDenied, Interns}
-use Rattle.arena_symbols.specs.Named.{AreNames, Moves, Declares, Spends, DeclaresWithin, OwnScopeWithin, IsFullFor, all_credit, meant, meaning}
+use Rattle.arena_symbols.specs.Named.{AreNames, Moves, Declares, Spends, DeclaresWithin, OwnScopeWithin, IsFullFor, all_credit, meaning}
 use Rattle.arena_symbols.specs.Names.{names_in, own_blocks, names_footprint, names_credit}
 use Rattle.arena_symbols.specs.Scoping.{innermost, is_in_last, outer_of, with_pair, pair_count, most_scopes, most_pairs}
 use Rattle.arena_symbols.specs.Paying.{Pays, far_up}
@@ -92,10 +93,7 @@ unnamed {old = old} {mid = mid} {n = n} {t = t} {name = name} {e = e} held inter
 overflows_at : {P : Type 0} {maps scopes : List (List (ℕ × ℕ))} {id : ℕ} (texts now : List (List ℕ)) (name : List ℕ) → maps ≡ scopes
     → number_of now name ≡ Some id → ((number_of texts name ≡ None) × (most_texts ≤ length texts) → ⊥)
     → (P ↔ ((is_in_last maps id ≡ false) × (most_pairs ≤ pair_count maps))) → P ↔ IsFullFor texts now scopes name
-overflows_at texts now name same number room full = rw (← same) (
-  λ is. inr ((_, number, (full.0 is).0), (full.0 is).1),
-  λ all. grind (arith, all, room, full.1, number),
-)
+overflows_at texts now name same number room full = grind (arith, nat_tests)
 
 pub bound : {old mid new : View} {n : Names} {t : Symbols} {u : Scopes} {name : List ℕ} {id value : ℕ} (result : Result Bool AllocError)
     → AreNames old.memory n → Interns old mid n.symbols t name (Ok id) → Defines entry_item mid new n.scopes u id value result
@@ -131,17 +129,13 @@ bound {old = old} {mid = mid} {new = new} {n = n} {t = t} {u = u} {name = name} 
 
 -- the outer maps after a pair was put
 outer_put : (scopes : List (List (ℕ × ℕ))) (id value : ℕ) → outer_of (with_pair scopes id value) ≡ outer_of scopes
-outer_put [] id value = refl
-outer_put (scope ∷ outer) id value = refl
+outer_put scopes id value = grind (arith, nat_tests)
 
 module _ {old new : Memory} {n m : Names} {name : List ℕ} {value : ℕ} where
   -- A name that was declared has its value,
   pub means_value : (result : Result Bool AllocError) → Declares old new n m name value result → result ≡ Ok true
       → meaning new m name ≡ Some value
-  means_value result declares is =
-      let put = (rw is at declares).put in
-      (λ i. meant (put.3 i) (put.1 i))
-      ∙ grind (arith, depth_is entry_item old n.scopes, lookup_put (scopes_in entry_item old n.scopes) put.0 value put.0)
+  means_value result declares is = grind (arith, nat_tests, depth_is, lookup_put)
 
   -- as it does in an empty scope.
   pub not_there : (result : Result Bool AllocError) → Declares old new n m name value result
@@ -157,8 +151,7 @@ module _ {old new : Memory} {n m : Names} {name : List ℕ} {value : ℕ} where
 pub ruleset declarations = (means_value, not_there, outer_kept)
 
 pub outer_long : (scopes : List (List (ℕ × ℕ))) → 0 < length (outer_of scopes) → 2 ≤ length scopes
-outer_long [] some = absurd (omega (arith, some))
-outer_long (scope ∷ outer) some = omega (arith, some)
+outer_long scopes some = grind (arith, nat_tests)
 
 -- ---- A scope of its own
 

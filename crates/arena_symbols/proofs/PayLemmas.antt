@@ -1,6 +1,7 @@
 -- What calls pay, by their parts: nothing, a text that is placed, a value appended to a vector, a pair in a map; and
 -- one after another.
-use Rattle.std.proofs.Common.{◌≡◌, ℕ, ◌+◌, ◌-◌, ◌*◌, ◌^◌, ◌<◌, ◌≤◌, refl, arith, inl, inr, false, IsTrue, Ok, Err, Option, List, length}
+use Rattle.std.proofs.lemmas.Bool.Decides.{nat_tests}
+use Rattle.std.proofs.Common.{◌≡◌, ℕ, ◌+◌, ◌-◌, ◌*◌, ◌^◌, ◌<◌, ◌≤◌, refl, arith, false, IsTrue, Ok, Err, Option, List, length}
 use Rattle.std.specs.Prelude.{Result, OnErr}
 use Rattle.std.proofs.lemmas.Bool.{cases_Bool}
 use Rattle.std.proofs.Math.Nat.{mul-le-mul_left}
@@ -47,17 +48,14 @@ told f (Ok x) = Ok (f x)
 told f (Err e) = Err e
 
 pub told_err : {X Y : Type 0} {e : AllocError} (f : X → Y) (result : Result X AllocError) → told f result ≡ Err e → result ≡ Err e
-told_err f (Ok x) is = absurd (cc)
-told_err f (Err d) is = cc
+told_err f result is = grind (arith, nat_tests)
 
 -- ---- No memory
 
 -- Nothing is done, and the result is no refusal by the arena.
 pub pays_nothing : {X : Type 0} (far bytes credit : ℕ) (old : View) (result : Result X AllocError)
     → ((k : ℕ) → result ≡ Err (AllocErr k) → ⊥) → Pays far bytes credit credit old old result
-pays_nothing far bytes credit old result none =
-    let asks = asks_same (used old + (bytes + credit)) old old refl refl in
-    grind (arith, none, asks)
+pays_nothing far bytes credit old result none = grind (arith, nat_tests, asks_same)
 
 -- No memory is taken, and the credit doesn't rise.
 pub pays_places : {X : Type 0} {far bytes before after : ℕ} (old new : View) (x : X) → SamePlaces old new → after ≤ before
@@ -78,7 +76,7 @@ pays_as {far = far} {near = near} {few = few} {many = many} {before = before} {m
     let asks = asks_more (used old + (few + before)) (used old + (many + more)) old.memory.state new.memory.state old.source new.source
     (omega (arith, sum)) pays.costs.asks in
     let nearer = starved_nearer near far old.memory.state new.memory.state old.source new.source close in
-    grind (arith, asks, nearer, same, pays, sum, less)
+    grind (arith, asks, nearer, same, pays, less)
 
 pub pays_more : {X : Type 0} {far near few many before after more later : ℕ} {old new : View} {result : Result X AllocError} (rest : ℕ)
     → far ≤ near → few ≤ many → before + rest ≡ more → later ≤ after + rest → Pays near few before after old new result
@@ -104,12 +102,7 @@ pays_then x growing still err first more =
 -- A refusal of room is the arena's, and reports how many requests were refused.
 room_told : {X : Type 0} (size align : ℕ) (old new : View) (block : Block) (cap : ℕ) (f : X → Block) (k : ℕ) (growth : Growth)
     → MakesRoom size align old new block cap growth f (Err (AllocErr k)) → IsCounted k old new
-room_told size align old new block cap f k Stays made = absurd made.0
-room_told size align old new block cap f k Overflows made = absurd (let no = made.0 in cc)
-room_told size align old new block cap f k (GrowsTo more) made = rw made.places.source (elim (zero_or_more cap) [
-  | inl none ↦ (let is = (made.took.placed none).1.outcome in grind (arith, is.0, is.1.asked.refusals, is.1.asked.bounded))
-  | inr some ↦ (let is = (made.took.grown some).1.outcome in grind (arith, is.0, is.1.asked.refusals, is.1.asked.bounded))
-])
+room_told size align old new block cap f k growth made = grind (arith, nat_tests, zero_or_more)
 
 -- What takes the room of a block that grows pays for that block.
 pays_room : {X : Type 0} (size align : ℕ) (old new : View) (block : Block) (cap more : ℕ) (f : X → Block) (bytes before after : ℕ)
@@ -149,8 +142,7 @@ pub record Paid : Type 0 where
 
 -- A vector's credit falls with its length, and if its capacity rises.
 pub credit_less : (s few many low high : ℕ) → few ≤ many → low ≤ high → list_credit s few high ≤ list_credit s many low
-credit_less s few many low high less more =
-    mul-le-mul_left (2 * s) (let h : 2 * few - high ≤ 2 * many - low = omega (arith, less, more) in h)
+credit_less s few many low high less more = grind (arith, nat_tests, mul-le-mul_left)
 
 module _ {T : Type 0} (paid : Paid) (item : Ghosts T) (plain : IsItemLayout item.SIZE item.ALIGN) (some : 4 ≤ item.SIZE)
     (small : item.SIZE ≤ 2 ^ 24) (low : item.ALIGN ≤ 8) (old new : View) (v w : Vec T) (list : List T)
@@ -165,15 +157,11 @@ module _ {T : Type 0} (paid : Paid) (item : Ghosts T) (plain : IsItemLayout item
   -- The block that is asked for is small.
   row_bytes : (more : ℕ) → more * item.SIZE + list_credit item.SIZE (v.raw.len + 1) more ≤ before + 4 * item.SIZE
       → more * item.SIZE ≤ 2 ^ 32 + 2 * item.SIZE
-  row_bytes more asked =
-      let half : 2 * v.raw.len - v.raw.cap ≤ v.raw.len = omega (arith, held.within) in
-      omega (arith, asked, mul-le-mul_left (2 * item.SIZE) half, few)
+  row_bytes more asked = grind (arith, nat_tests, mul-le-mul_left)
 
   row_layout : (more : ℕ) → more * item.SIZE + list_credit item.SIZE (v.raw.len + 1) more ≤ before + 4 * item.SIZE
       → IsTrue (is_layout (more * item.SIZE) item.ALIGN)
-  row_layout more asked =
-      let four : more * 4 ≤ more * item.SIZE = mul-le-mul_left more some in
-      row_is_layout more item.SIZE item.ALIGN plain (omega (arith, four, row_bytes more asked, small)) small
+  row_layout more asked = grind (arith, nat_tests, mul-le-mul_left, row_is_layout, row_bytes)
 
   denied_growth : {X : Type 0} (k : ℕ) (growth : Growth)
       → asked_by item.SIZE growth + list_credit item.SIZE (v.raw.len + 1) (capacity_after growth v.raw.cap) ≤ before + 4 * item.SIZE
@@ -204,16 +192,13 @@ module _ {T : Type 0} (paid : Paid) (item : Ghosts T) (plain : IsItemLayout item
   pub pays_push : {X : Type 0} (result : Result X AllocError) → (result ≡ Err CapacityOverflow → ⊥)
       → Grows item old new v (amortised_growth item.SIZE v.raw.cap (v.raw.len + 1)) list w result
       → Pays farthest (4 * item.SIZE + 7) before after old new result
-  pays_push result fits grows = pays_growth (amortised_growth item.SIZE v.raw.cap (v.raw.len + 1)) result
-      (paid.keeps item.SIZE v.raw.cap (v.raw.len + 1))
-      (omega (arith, paid.asks item.SIZE v.raw.cap v.raw.len 1 held.within (omega (arith, some)) few)) fits grows
+  pays_push result fits grows = grind (arith, nat_tests, pays_growth)
 
   -- If refused, the list is unchanged, and the block that it asks for has no place.
   pub denied_push : {X : Type 0} (k : ℕ)
       → Grows {X = X} item old new v (amortised_growth item.SIZE v.raw.cap (v.raw.len + 1)) list w (Err (AllocErr k))
       → IsDenied (LongerList item w) new
-  denied_push k grows = rw grows.err.0 (denied_growth k (amortised_growth item.SIZE v.raw.cap (v.raw.len + 1))
-      (omega (arith, paid.asks item.SIZE v.raw.cap v.raw.len 1 held.within (omega (arith, some)) few)) grows)
+  denied_push k grows = grind (arith, nat_tests, denied_growth)
 
 -- ---- A pair in a map
 

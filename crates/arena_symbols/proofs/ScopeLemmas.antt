@@ -3,12 +3,10 @@ use Rattle.std.proofs.Common.{◌≡◌, ℕ, zero, suc, ◌+◌, ◌^◌, ◌<�
 use Rattle.std.specs.Prelude.{bytes_eq, ◌==◌, if◌then◌else◌, is_some, slice_get, option_map}
 use Rattle.std.proofs.lemmas.Bool.Decides.{nat_tests, same_from_decides}
 use Rattle.std.proofs.lemmas.Slice.Eq.{bytes_eq-Decides}
-use Rattle.std.specs.Int.{w32, to_le_bytes, from_le_bytes}
-use Rattle.arena_items.specs.NumberLaws.{bytes_back}
-use Rattle.std.proofs.lemmas.List.{reverse-append, map-append}
+use Rattle.std.specs.Int.{w32, to_le_bytes}
+use Rattle.std.proofs.lemmas.List.{reverse-append, map-append, length-map, length-take, length-drop, length-reverse, drop-append-le, take-append-le, take-append-drop, take_all, drop_all, take_more, nil_from_length}
 use Rattle.std.proofs.lemmas.Bool.{cases_lt}
 use Rattle.std.proofs.lemmas.Option.{get_or_from_slice_get, slice_get-get_or}
-use Rattle.std.proofs.lemmas.List.{length-map, length-take, length-drop, length-reverse, drop-append-le, take-append-le, take-append-drop, take_all, drop_all, take_more, nil_from_length}
 use Rattle.std.proofs.lemmas.List.Sums.{sum_by-cons}
 use Rattle.arena_items.proofs.Layers.{length-elements}
 use Rattle.arena_symbols.specs.Scoping.{seen, value_in, lookup, innermost, with_pair, pair_count, scopes_of, AreStarts, start_in, stands_from}
@@ -101,12 +99,10 @@ reverse_last {X} xs n x long there =
 -- ---- The innermost map
 
 pub innermost_is : (pairs : List (ℕ × ℕ)) (starts : List ℕ) → innermost (scopes_of pairs starts) ≡ drop (start_in starts) pairs
-innermost_is pairs [] = refl
-innermost_is pairs (k ∷ ks) = refl
+innermost_is pairs starts = grind (arith, nat_tests)
 
 pub start_within : (n : ℕ) (starts : List ℕ) → AreStarts n starts → start_in starts ≤ n
-start_within n [] begins = omega arith
-start_within n (k ∷ ks) begins = begins.0
+start_within n starts begins = grind (arith, nat_tests)
 
 -- The innermost map begins at the last of the places, and the next one before the others.
 pub reverse_front : (xs : List ℕ) (n : ℕ) → length xs ≡ n + 1 → reverse xs ≡ start_in (reverse xs) ∷ reverse (take n xs)
@@ -130,17 +126,14 @@ scopes_enter pairs starts n is = (λ i. drop_all n pairs (omega (arith, is)) i �
 
 pub scopes_push : (pairs : List (ℕ × ℕ)) (starts : List ℕ) (id value : ℕ) → start_in starts ≤ length pairs
     → scopes_of (pairs ++ (id, value) ∷ []) starts ≡ with_pair (scopes_of pairs starts) id value
-scopes_push pairs [] id value low = refl
-scopes_push pairs (k ∷ ks) id value low =
-    (λ i. drop-append-le k pairs ((id, value) ∷ []) low i ∷ scopes_of (take-append-le k pairs ((id, value) ∷ []) low i) ks)
+scopes_push pairs starts id value low = grind (arith, nat_tests, drop-append-le, take-append-le)
 
 pub count_pairs : (pairs : List (ℕ × ℕ)) (starts : List ℕ) → pair_count (scopes_of pairs starts) ≡ length pairs
 count_pairs pairs [] = omega arith
 count_pairs pairs (k ∷ ks) = simp (sum_by-cons, count_pairs (take k pairs) ks, length-take, length-drop) (omega arith)
 
 pub less_starts : (n m : ℕ) (starts : List ℕ) → start_in starts ≤ m → AreStarts n starts → AreStarts m starts
-less_starts n m [] le begins = tt
-less_starts n m (k ∷ ks) le begins = (le, begins.1)
+less_starts n m starts le begins = grind (arith, nat_tests)
 
 pub first_most : (es : List Entry) → first_count es ≤ length es
 first_most [] = omega arith
@@ -148,7 +141,4 @@ first_most (e ∷ older) = grind (arith, first_most older)
 
 -- Two ids have the same byte form exactly if they are equal.
 pub ids_equal : (q id : ℕ) → q < 2 ^ 32 → id < 2 ^ 32 → bytes_eq (to_le_bytes w32 q) (to_le_bytes w32 id) ≡ (id == q)
-ids_equal q id fits also = same_from_decides _ _ (bytes_eq-Decides (to_le_bytes w32 q) (to_le_bytes w32 id)) (
-  λ same. ap (to_le_bytes w32) (sym (eqb-true id q same)),
-  λ lists. eq-eqb id q (sym (sym (bytes_back 3 q fits) ∙ ap (from_le_bytes w32) lists ∙ bytes_back 3 id also)),
-)
+ids_equal q id fits also = grind (arith, nat_tests, same_from_decides, bytes_eq-Decides, eqb-true, eq-eqb)

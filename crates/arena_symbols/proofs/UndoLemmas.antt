@@ -1,5 +1,5 @@
 -- The newest pair is removed.
-use Rattle.std.proofs.Common.{◌≡◌, ℕ, ◌+◌, ◌^◌, ◌<◌, ◌≤◌, List, [], ◌∷◌, length, take, reverse, refl, sym, ap, subst, ◌∙◌, arith, Some, None, Option, Ok, Err, true, cond}
+use Rattle.std.proofs.Common.{◌≡◌, ℕ, ◌+◌, ◌^◌, ◌<◌, ◌≤◌, List, [], ◌∷◌, length, take, reverse, ap, subst, ◌∙◌, arith, Some, None, Option, Ok, Err, true, cond}
 use Rattle.std.specs.Prelude.{slice_get, Result}
 use Rattle.std.specs.Int.{w32, to_le_bytes}
 use Rattle.std.proofs.lemmas.Bool.Decides.{nat_tests}
@@ -7,7 +7,6 @@ use Rattle.std.proofs.lemmas.List.{length-take, length-reverse, take_all, take-t
 use Rattle.arena_chunks.specs.Source.{View}
 use Rattle.arena_chunks.specs.Frame.{Frame}
 use Rattle.arena_chunks.proofs.Layers.{blocks_turned, frame_beside, frame_reflexive, frame_then}
-use Rattle.arena_items.specs.Room.{SamePlaces}
 use Rattle.arena_items.specs.declared.item.Item.{Ghosts}
 use Rattle.arena_items.specs.declared.room.AllocError.{AllocError}
 use Rattle.arena_items.proofs.Layers.{length-elements, same_then}
@@ -115,11 +114,7 @@ module _ {item : Ghosts Entry} (old : View) {s : Scopes} (n : ℕ) {e : Entry} (
 
 pub cut_none : {item : Ghosts Entry} {n : ℕ} (old : View) (s : Scopes) → s.pairs.raw.len ≡ n → IsTableIn item old.memory s
     → Cuts item old old s s n
-cut_none {item} {n} old s is held =
-    let entries : entries_in item old.memory s ≡ take n (entries_in item old.memory s) =
-    sym (take_all n _ (omega (arith, is, length-elements item.SIZE item.decoded s.pairs.raw.len))) in
-    let places : SamePlaces old old = record { state = refl; statistics = refl; source = refl } in
-    grind (arith, held, is, entries, places, frame_reflexive old.memory (table_blocks s))
+cut_none {item} {n} old s is held = grind (arith, nat_tests, take_all, length-elements, frame_reflexive)
 
 pub cut_then : {item : Ghosts Entry} {old mid new : View} {s t u : Scopes} {n k m : ℕ} → k ≡ m → m ≤ n → Cuts item old mid s t n
     → Cuts item mid new t u k → Cuts item old new s u m

@@ -1,6 +1,6 @@
+use Rattle.std.proofs.lemmas.Bool.Decides.{nat_tests}
 use Rattle.std.proofs.Common.{arith}
 use Rattle.std.proofs.lemmas.Result.{err_from_is_err_and}
-use Rattle.arena_symbols.specs.declared.calls.Call.TheVariants.{Len}
 use Rattle.arena_symbols.proofs.CallLemmas.{ran_next, stops_refused, stops_unheard}
 use Rattle.arena_symbols.proofs.names.Names.run.Goals as goal
 
@@ -16,9 +16,7 @@ returns-in_err-reply-clause-err g c =
     (stops_refused c.args.calls.now c.loop-call.call-index _ (omega arith) c.loop-call.invariant c.in_err-reply.ensures)
 
 pub returns-then-is_err-clause-err : goal.returns-then-is_err-clause-err
-returns-then-is_err-clause-err g c =
-    rw c.reserve.ensures.items
-    (stops_unheard c.args.calls.now c.loop-call.call-index Len (omega arith) c.loop-call.invariant)
+returns-then-is_err-clause-err g c = grind (arith, nat_tests, stops_unheard)
 
 pub push_reserved-requires : goal.push_reserved-requires
 push_reserved-requires g c = grind (arith, c.reserve.ensures, c.is_err.ensures.value, c.if-is_err.false)
