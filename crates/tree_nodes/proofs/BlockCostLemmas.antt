@@ -1,4 +1,5 @@
 -- What it costs to place a block.
+use Rattle.std.proofs.lemmas.Bool.Decides.{nat_tests}
 use Rattle.std.proofs.Common.{◌≡◌, ℕ, ◌+◌, ◌-◌, ◌^◌, ◌≤◌, inl, inr, refl, ap, arith, IsTrue, Option, Some, None}
 use Rattle.std.proofs.lemmas.Bool.{cases_lt}
 use Rattle.arena_rules.specs.Rounding.{is_layout}
@@ -83,9 +84,4 @@ module _ (old new : View) (size align : ℕ) (one : old.memory.state.min_align �
 -- Calls after which no cursor moved spend nothing more.
 pub spends_same : {layouts : Layouts} {bytes before after : ℕ} {old mid new : View} → SamePlaces mid new
     → Spends layouts bytes before after old mid None → Spends layouts bytes before after old new None
-spends_same same spends = record {
-  takes = rw same.state spends.takes;
-  asks = rw (same.state, same.source) spends.asks;
-  kind = record { is_growing = rw same.state spends.kind.is_growing; allocated = λ still. rw same.state (spends.kind.allocated still) };
-  stops = tt;
-}
+spends_same same spends = grind (arith, nat_tests, asks)

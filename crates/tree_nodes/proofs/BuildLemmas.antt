@@ -1,5 +1,6 @@
 -- Nodes over lists that are built.
-use Rattle.std.proofs.Common.{◌≡◌, ℕ, ap, sym, refl, subst, List, [], ◌∷◌, append-nil}
+use Rattle.std.proofs.lemmas.Bool.Decides.{nat_tests}
+use Rattle.std.proofs.Common.{arith, ◌≡◌, ℕ, ap, sym, subst, List, [], ◌∷◌, append-nil}
 use Rattle.arena_chunks.specs.Memory.{Memory}
 use Rattle.arena_chunks.specs.Frame.{Frame, ArePairwiseApart}
 use Rattle.arena_chunks.proofs.Layers.{frame_reflexive}
@@ -15,17 +16,13 @@ use Rattle.tree_nodes.proofs.LeanLemmas.{node_lean, leaf_lean, number_lean}
 use Rattle.tree_nodes.specs.TreesAt.{kids_of, kids_in, no_kids, IsLeanFor, AreLean, IsOnly, of_first, ExprAt, ExprsAt, expr_blocks, exprs_blocks, IsPlaced, IsBuilt}
 
 pub only_one : (e : Expr) (m : Memory) (ns : List Node) → ExprsAt (And e NoExprs) m ns → IsOnly ns (λ k. ExprAt e m k)
-only_one e m [] at = absurd at
-only_one e m (k ∷ []) at = at.0
-only_one e m (k ∷ l ∷ ks) at = absurd at.1
+only_one e m ns at = grind (arith, nat_tests)
 
 pub one_row : (e : Expr) (m : Memory) (ns : List Node) → IsOnly ns (λ k. ExprAt e m k) → ExprsAt (And e NoExprs) m ns
-one_row e m (k ∷ []) at = (at, tt)
-one_row e m ns at = absurd at
+one_row e m ns at = grind (arith, nat_tests)
 
 pub only_blocks : (e : Expr) (m : Memory) (ns : List Node) → exprs_blocks (And e NoExprs) m ns ≡ of_first ns (λ k. expr_blocks e m k)
-only_blocks e m [] = refl
-only_blocks e m (k ∷ ks) = append-nil (expr_blocks e m k)
+only_blocks e m ns = grind (arith, nat_tests, append-nil)
 
 -- a node that has children alone, and no number and no text
 abbrev pub HasKidsAlone : Node → Type 0
@@ -48,15 +45,11 @@ neg_placed e old new v n built is kids rest =
 
 pub prod_placed : (es : Exprs) (old new : Memory) (v : Vec Node) (n : Node) → IsBuilt es old new v → n.kind ≡ kind.Prod → kids_of n ≡ v
     → HasKidsAlone n → IsPlaced (Prod es) old new n
-prod_placed es old new v n built is kids rest =
-    let b = subst (IsBuilt es old new) (sym kids) built in
-    record { stands = (is, b.held, b.stand); apart = b.apart; frame = b.frame; lean = lean_as n is rest b.lean }
+prod_placed es old new v n built is kids rest = grind (arith, nat_tests)
 
 pub sum_placed : (es : Exprs) (old new : Memory) (v : Vec Node) (n : Node) → IsBuilt es old new v → n.kind ≡ kind.Sum → kids_of n ≡ v
     → HasKidsAlone n → IsPlaced (Sum es) old new n
-sum_placed es old new v n built is kids rest =
-    let b = subst (IsBuilt es old new) (sym kids) built in
-    record { stands = (is, b.held, b.stand); apart = b.apart; frame = b.frame; lean = lean_as n is rest b.lean }
+sum_placed es old new v n built is kids rest = grind (arith, nat_tests)
 
 pub number_placed : (m : Memory) (k : ℕ) (n : Node) → n ≡ number_node k → IsPlaced (Num k) m m n
 number_placed m k n is = record {
@@ -69,9 +62,4 @@ number_placed m k n is = record {
 pub name_placed : (old new : Memory) (bytes : List ℕ) (text : Str) (n : Node) → IsTextIn new text → text_bytes new text ≡ bytes
     → Frame old new [] (text.block ∷ [])
     → n.kind ≡ kind.Name → n.text ≡ text → (n.number ≡ 0) × (kids_of n ≡ no_kids) → IsPlaced (Name bytes) old new n
-name_placed old new bytes text n held is frame kind same rest = record {
-  stands = (kind, rw same held, rw same is);
-  apart = (tt, tt);
-  frame = rw same frame;
-  lean = lean_as n kind rest (leaf_lean new n rest.1);
-}
+name_placed old new bytes text n held is frame kind same rest = grind (arith, nat_tests, leaf_lean)

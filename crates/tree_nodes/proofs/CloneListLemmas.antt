@@ -1,5 +1,6 @@
 -- Lists with room for all nodes that are to come.
-use Rattle.std.proofs.Common.{◌≡◌, ◌+◌, sym, subst, Result, Ok, Err, List, [], ◌∷◌, ◌++◌, length}
+use Rattle.std.proofs.lemmas.Bool.Decides.{nat_tests}
+use Rattle.std.proofs.Common.{arith, ◌≡◌, ◌+◌, Result, Ok, Err, List, [], ◌∷◌, ◌++◌, length}
 use Rattle.arena_chunks.specs.Memory.{Memory}
 use Rattle.arena_chunks.specs.Source.{View}
 use Rattle.arena_chunks.specs.Frame.{Frame}
@@ -11,20 +12,14 @@ use Rattle.arena_vec.specs.Growth.{amortised_growth}
 use Rattle.arena_vec.specs.Vecs.{IsVecIn, vec_list}
 use Rattle.arena_vec.specs.declared.vec.Vec.{Vec}
 use Rattle.tree_nodes.specs.declared.node.Node.{Node}
-use Rattle.tree_nodes.specs.TreesAt.{node_item, AreLean}
-use Rattle.tree_nodes.specs.Subtrees.{RowAt, IsRowBuilt}
+use Rattle.tree_nodes.specs.TreesAt.{node_item}
+use Rattle.tree_nodes.specs.Subtrees.{IsRowBuilt}
 use Rattle.tree_nodes.proofs.LeanLemmas.{lean_none}
 
 -- a list of no nodes in a block that was free
 pub room_built : (old new : Memory) (v : Vec Node) → IsVecIn node_item new v → vec_list node_item new v ≡ []
     → Frame old new [] (v.raw.block ∷ []) → IsRowBuilt [] old new v
-room_built old new v held none frame = record {
-  held = held;
-  stand = subst (RowAt [] new) (sym none) tt;
-  apart = (tt, tt);
-  frame = frame;
-  lean = subst (AreLean new) (sym none) (lean_none new);
-}
+room_built old new v held none frame = grind (arith, nat_tests, lean_none)
 
 -- Where there is room, nodes are never refused, and no cursor moves.
 module _ (old new : View) (v w : Vec Node) (ns : List Node)

@@ -1,5 +1,6 @@
 -- Nodes that hold nothing that their kinds don't use.
-use Rattle.std.proofs.Common.{◌≡◌, ℕ, zero, suc, ap, sym, refl, subst, ◌∙◌, true, List, [], ◌∷◌, ◌++◌, drop, append-nil}
+use Rattle.std.proofs.lemmas.Bool.Decides.{nat_tests}
+use Rattle.std.proofs.Common.{arith, ◌≡◌, ℕ, zero, suc, ap, sym, refl, subst, ◌∙◌, true, List, [], ◌∷◌, ◌++◌, drop, append-nil}
 use Rattle.arena_chunks.specs.Memory.{Memory}
 use Rattle.arena_store.specs.declared.block.Block.{Block}
 use Rattle.arena_items.specs.Footprint.{Agree}
@@ -18,8 +19,7 @@ use Rattle.tree_nodes.proofs.SubtreeLemmas.{kids_it, kids_at, true_false}
 -- ---- Lists, and one node
 
 pub lean_none : (m : Memory) → AreLean m []
-lean_none m zero = tt
-lean_none m (suc depth) = tt
+lean_none m h = grind (arith, nat_tests)
 
 pub lean_both : (m : Memory) (ns ks : List Node) → AreLean m ns → AreLean m ks → AreLean m (ns ++ ks)
 lean_both m ns ks first second zero = tt
@@ -32,8 +32,7 @@ lean_both m (n ∷ ns) ks first second (suc depth) =
     rest (suc d) = (first (suc d)).1
 
 pub node_lean : (m : Memory) (n : Node) → IsLean n → AreLean m (kids_in m n) → AreLean m (n ∷ [])
-node_lean m n own below zero = tt
-node_lean m n own below (suc depth) = ((own, below depth), tt)
+node_lean m n own below h = grind (arith, nat_tests)
 
 pub own_lean : (m : Memory) (n : Node) → AreLean m (n ∷ []) → IsLean n
 own_lean m n lean = (lean 1).0.0
@@ -75,8 +74,7 @@ stmt_blocks_are (Then s rest) m (n ∷ ns) = ap (λ bs. stmt_blocks s m n ++ bs)
 stmt_blocks_are ss m ns = refl
 
 one_block : (e : Expr) (m : Memory) (ns : List Node) → of_first ns (λ k. expr_blocks e m k) ≡ row_blocks (OfExpr e ∷ []) m ns
-one_block e m [] = refl
-one_block e m (k ∷ ks) = sym (append-nil (expr_blocks e m k))
+one_block e m ns = grind (arith, nat_tests, append-nil)
 
 -- The children of a node are the same, on the same blocks.
 abbrev KidsAgree : Subtree → Memory → Memory → Node → Type 0
@@ -104,9 +102,7 @@ Stays d a c = (ts : List Subtree) (ns : List Node) → RowAt ts a ns → Agree a
 module _ (d : ℕ) (a c : Memory) (below : Stays d a c) where
   branch : (t : Subtree) (n : Node) → SubtreeAt t a n → has_kids n.kind ≡ true → Agree a c (blocks_at t a n)
       → AreLeanTo d a (kids_in a n) → AreLeanTo d c (kids_in c n)
-  branch t n at is same lean =
-      let k = kids_agree t a c n at is same in
-      subst (AreLeanTo d c) (sym k.0) (below (kids_it t) (kids_in a n) (kids_at t a n at is).stand k.1 lean)
+  branch t n at is same lean = grind (arith, nat_tests, kids_agree, kids_it, kids_at)
 
   kids_stay : (t : Subtree) (n : Node) → SubtreeAt t a n → Agree a c (blocks_at t a n) → IsLean n → AreLeanTo d a (kids_in a n)
       → AreLeanTo d c (kids_in c n)

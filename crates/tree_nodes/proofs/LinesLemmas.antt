@@ -1,5 +1,6 @@
 -- Nodes of statements.
-use Rattle.std.proofs.Common.{◌≡◌, ℕ, sym, subst, ◌∙◌, List, [], ◌∷◌}
+use Rattle.std.proofs.lemmas.Bool.Decides.{nat_tests}
+use Rattle.std.proofs.Common.{arith, ◌≡◌, ℕ, sym, subst, ◌∙◌, List, [], ◌∷◌}
 use Rattle.arena_chunks.specs.Memory.{Memory}
 use Rattle.arena_chunks.specs.Frame.{Frame, IsApart, ArePairwiseApart}
 use Rattle.arena_chunks.specs.declared.allocator.text.Str.{Str}
@@ -17,21 +18,11 @@ use Rattle.tree_nodes.proofs.BuildLemmas.{only_one, only_blocks, HasKidsAlone, l
 
 pub show_placed : (e : Expr) (old new : Memory) (v : Vec Node) (n : Node) → IsBuilt (And e NoExprs) old new v → n.kind ≡ kind.Show
     → kids_of n ≡ v → HasKidsAlone n → IsStmtPlaced (Show e) old new n
-show_placed e old new v n built is kids rest =
-    let b = subst (IsBuilt (And e NoExprs) old new) (sym kids) built in
-    let ns = kids_in new n in
-    record {
-      stands = (is, b.held, only_one e new ns b.stand);
-      apart = subst (λ bs. ArePairwiseApart (n.kids ∷ bs)) (only_blocks e new ns) b.apart;
-      frame = subst (λ bs. Frame old new [] (n.kids ∷ bs)) (only_blocks e new ns) b.frame;
-      lean = lean_as n is rest b.lean;
-    }
+show_placed e old new v n built is kids rest = grind (arith, nat_tests, only_one, only_blocks, lean_as)
 
 pub block_placed : (ss : Stmts) (old new : Memory) (v : Vec Node) (n : Node) → AreBuilt ss old new v → n.kind ≡ kind.Block → kids_of n ≡ v
     → HasKidsAlone n → IsStmtPlaced (tree.Block ss) old new n
-block_placed ss old new v n built is kids rest =
-    let b = subst (AreBuilt ss old new) (sym kids) built in
-    record { stands = (is, b.held, b.stand); apart = b.apart; frame = b.frame; lean = lean_as n is rest b.lean }
+block_placed ss old new v n built is kids rest = grind (arith, nat_tests, lean_as)
 
 -- the name was placed first, and then the expression in a list
 pub let_node_placed : (name : List ℕ) (e : Expr) (old one new : Memory) (text : Str) (v : Vec Node) (n : Node) → IsTextIn one text

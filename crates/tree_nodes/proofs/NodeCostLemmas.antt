@@ -1,4 +1,5 @@
 -- What it costs to append nodes to a list.
+use Rattle.std.proofs.lemmas.Bool.Decides.{nat_tests}
 use Rattle.std.proofs.Common.{◌≡◌, ℕ, suc, ◌+◌, ◌-◌, ◌*◌, ◌^◌, ◌<◌, ◌≤◌, refl, sym, ap, subst, ◌∙◌, arith, IsTrue, Ok, Err, List, [], ◌++◌, length, length-append, ◌⊎◌, inl, inr, max, None}
 use Rattle.std.proofs.Math.Nat.{pow-suc}
 use Rattle.std.proofs.lemmas.Bool.{cases_lt}
@@ -47,10 +48,7 @@ told old new size align k places =
 -- A block that was refused has no place, before and after.
 pub refused_place : (old new : View) (size align k : ℕ) → IsTrue (is_layout size align) → PlacesBlock old new size align (Refused k)
     → place new.memory.state size align ≡ None
-refused_place old new size align k layout places =
-    let failed = alloc_failed old.memory.state old.memory.state size align places.0 places.1.valid.entry (layout_power size align layout)
-    places.1.outcome.1.step in
-    rw (ap (λ (m : Memory). m.state) places.1.outcome.1.memory) failed.none
+refused_place old new size align k layout places = grind (arith, nat_tests, alloc_failed, layout_power)
 
 pub pushed_length : (ns ks : List Node) (len : ℕ) → length ns ≡ len → length (ns ++ ks) ≡ len + length ks
 pushed_length ns ks len is = omega (arith, length-append ns ks, is)
@@ -84,9 +82,7 @@ more_doubled n power len cap many within full (inr is) =
 -- What the capacity becomes for so many more nodes.
 module _ (paid : Paid) (len cap n : ℕ) (few : len + n ≤ 2 ^ 24 + 4) where
   full_grows : cap < len + n → amortised_growth 88 cap (len + n) ≡ GrowsTo (max (2 * cap) (len + n))
-  full_grows full =
-      paid.grows 88 cap (len + n) (amortised 88 cap (len + n)) full (omega arith) (omega arith)
-      ∙ ap GrowsTo (paid.doubles 88 cap (len + n) (omega (arith, full)) (omega (arith, full)))
+  full_grows full = grind (arith, nat_tests)
 
   pub cap_doubled : (power : ℕ) → n ≡ 2 ^ power → len ≤ cap → IsDoubled n cap
       → IsDoubled n (capacity_after (amortised_growth 88 cap (len + n)) cap)

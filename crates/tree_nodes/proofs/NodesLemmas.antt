@@ -1,4 +1,5 @@
 -- A tree has no more nodes than the arena has room for: so a walk over it ends, and its nodes can be counted.
+use Rattle.std.proofs.lemmas.Bool.Decides.{nat_tests}
 use Rattle.std.proofs.Common.{◌≡◌, ◌+◌, ◌*◌, ◌≤◌, List, [], ◌∷◌, ◌++◌, length, arith, ℕ, refl, ap, ◌∙◌, subst, IsTrue}
 use Rattle.std.proofs.lemmas.List.Sums.{sum_by-cons}
 use Rattle.std.specs.Prelude.{map}
@@ -39,8 +40,7 @@ sizes_both (b ∷ bs) cs = omega (arith, sizes_both bs cs)
 
 -- a list's block has 88 bytes at least for each of its nodes
 list_size : (m : Memory) (v : Vec Node) → IsVecIn node_item m v → 88 * length (vec_list node_item m v) ≤ v.raw.block.size
-list_size m v held =
-    omega (arith, list_len m v, held.within, held.place.of_size)
+list_size m v held = grind (arith, nat_tests, list_len)
 
 -- the one child of a node
 kid_size : (e : Expr) (m : Memory) (n : Node) → ((k : Node) → ExprAt e m k → 88 * below e ≤ sizes (expr_lists e m k))

@@ -1,5 +1,6 @@
 -- A node represents at most one tree.
-use Rattle.std.proofs.Common.{◌≡◌, ap, sym, refl, ◌∙◌, List, [], ◌∷◌}
+use Rattle.std.proofs.lemmas.Bool.Decides.{nat_tests}
+use Rattle.std.proofs.Common.{arith, ◌≡◌, ap, sym, refl, ◌∙◌, List, [], ◌∷◌}
 use Rattle.arena_chunks.specs.Memory.{Memory}
 use Rattle.tree_rules.specs.Trees.{Expr, Num, Name, Neg, Sum, Prod, Exprs, NoExprs, And, Stmt, Let, Show, Stmts, NoStmts, Then}
 use Rattle.tree_rules.specs.Trees as tree
@@ -11,9 +12,7 @@ use Rattle.tree_nodes.proofs.WalkLemmas.{seen, line_seen}
 
 only_same : (e f : Expr) (m : Memory) (ns : List Node) → ((k : Node) → ExprAt e m k → ExprAt f m k → e ≡ f) → IsOnly ns (λ k. ExprAt e m k)
     → IsOnly ns (λ k. ExprAt f m k) → e ≡ f
-only_same e f m [] each one two = absurd one
-only_same e f m (k ∷ []) each one two = each k one two
-only_same e f m (k ∷ l ∷ ks) each one two = absurd one
+only_same e f m ns each one two = grind (arith, nat_tests)
 
 mutual
   one_expr : (e f : Expr) (m : Memory) (n : Node) → ExprAt e m n → ExprAt f m n → e ≡ f

@@ -1,4 +1,5 @@
 -- Lists of nodes that are built, one tree after another.
+use Rattle.std.proofs.lemmas.Bool.Decides.{nat_tests}
 use Rattle.std.proofs.Common.{◌≡◌, ℕ, suc, zero, ◌+◌, ◌-◌, ◌<◌, ◌≤◌, ap, sym, refl, subst, ◌∙◌, Some, List, [], ◌∷◌, ◌++◌, append_assoc, take, drop, length, length-append, arith, append-nil}
 use Rattle.std.specs.Prelude.{slice_get}
 use Rattle.arena_chunks.specs.Memory.{Memory}
@@ -12,7 +13,7 @@ use Rattle.tree_rules.specs.Trees.{Expr, Exprs, NoExprs, And, with_expr, Stmt, S
 use Rattle.tree_nodes.specs.declared.node.Node.{Node}
 use Rattle.tree_nodes.specs.TreesAt.{node_item, AreLean, IsBuilt}
 use Rattle.tree_nodes.specs.StmtsAt.{AreBuilt}
-use Rattle.tree_nodes.specs.TreeLaws.{list_same, list_held, expr_readable, expr_names, expr_again, readable_both, readable_each, agree_each}
+use Rattle.tree_nodes.specs.TreeLaws.{list_same, expr_readable, expr_names, expr_again, readable_both, readable_each, agree_each}
 use Rattle.tree_nodes.specs.StmtLaws.{stmt_readable, stmt_names, stmt_again}
 use Rattle.tree_nodes.specs.Subtrees.{Subtree, OfExpr, OfStmt, SubtreeAt, blocks_at, below_it, row_nodes, HasTree, expr_row, stmt_row, RowAt, row_blocks, IsTreePlaced, IsRowBuilt, AreGathered, IsRowRead}
 use Rattle.tree_nodes.proofs.StayLemmas.{stay_all, all_none, turned_one, frame_behind}
@@ -63,8 +64,7 @@ rows_both ts us m ns ks at others = absurd at
 
 tree_placed : (t : Subtree) (old new : Memory) (n : Node) → IsTreePlaced t old new n
     → SubtreeAt t new n × ArePairwiseApart (blocks_at t new n) × Frame old new [] (blocks_at t new n) × AreLean new (n ∷ [])
-tree_placed (OfExpr e) old new n p = (p.stands, p.apart, p.frame, p.lean)
-tree_placed (OfStmt s) old new n p = (p.stands, p.apart, p.frame, p.lean)
+tree_placed t old new n p = grind (arith, nat_tests)
 
 -- ---- Trees whose nodes are in no list yet
 
@@ -72,15 +72,7 @@ pub gathered_none : (m : Memory) → AreGathered [] m m []
 gathered_none m = record { stand = tt; apart = tt; frame = frame_reflexive m []; lean = lean_none m }
 
 pub gathered_one : (t : Subtree) {old new : Memory} {n : Node} → IsTreePlaced t old new n → AreGathered (t ∷ []) old new (n ∷ [])
-gathered_one t {old} {new} {n} placed =
-    let p = tree_placed t old new n placed in
-    let none = append-nil (blocks_at t new n) in
-    record {
-      stand = (p.0, tt);
-      apart = subst ArePairwiseApart (sym none) p.1;
-      frame = subst (Frame old new []) (sym none) p.2;
-      lean = p.3;
-    }
+gathered_one t {old} {new} {n} placed = grind (arith, nat_tests, tree_placed, append-nil)
 
 gathered_then : {ts us : List Subtree} {old one two : Memory} {ns ks : List Node} → AreGathered ts old one ns → AreGathered us one two ks
     → AreGathered (ts ++ us) old two (ns ++ ks)
@@ -102,13 +94,7 @@ gathered_then {ts} {us} {old} {one} {two} {ns} {ks} first rest =
 -- no trees, in a list with no storage
 pub row_none : (m : Memory) (v : Vec Node) → IsVecIn node_item m v → vec_list node_item m v ≡ [] → v.raw.block.size ≡ 0
     → IsRowBuilt [] m m v
-row_none m v held none size = record {
-  held = held;
-  stand = subst (RowAt [] m) (sym none) tt;
-  apart = (tt, tt);
-  frame = (empty_after m m [] [] [] v.raw.block size).1 (frame_reflexive m []);
-  lean = subst (AreLean m) (sym none) (lean_none m);
-}
+row_none m v held none size = grind (arith, nat_tests, empty_after, frame_reflexive, lean_none)
 
 -- Trees that were placed before are written into a list with room, in a block that was free.
 pub row_of : (ts : List Subtree) {old one mid new : Memory} {v w : Vec Node} {ns : List Node} → AreGathered ts old one ns
@@ -137,8 +123,7 @@ row_of ts {old} {one} {mid} {new} {v} {w} {ns} placed room held list_is filled =
 
 -- A list stays where other blocks are placed.
 pub list_kept : {a c : Memory} {v : Vec Node} {blocks : List Block} → IsVecIn node_item a v → Frame a c [] blocks → IsVecIn node_item c v
-list_kept {a} {c} {v} {blocks} held frame =
-    list_held a c v held (stay_all a c [] blocks (v.raw.block ∷ []) frame (held.place.readable, tt) (tt, tt)).readable.0
+list_kept {a} {c} {v} {blocks} held frame = grind (arith, nat_tests, stay_all)
 
 -- Trees are placed, and appended to a list that is being built.
 module _ (ts us : List Subtree) (old one two : Memory) (v : Vec Node) (ks : List Node) (built : IsRowBuilt ts old one v)
@@ -210,13 +195,7 @@ read_frame {old = old} {new} read = frame_then old read.between new [] [] [] (fr
 
 pub read_length : {ts : List Subtree} {old new : Memory} {v : Vec Node} {ns : List Node} → IsRowRead ts old new v ns
     → length ts ≡ v.raw.len + length ns
-read_length {new = new} {v} {ns} read = omega (
-  arith,
-  ap length read.all,
-  length-append read.front read.back,
-  row_length read.front read.between _ read.built.stand ∙ list_len read.between v,
-  row_length read.back new ns read.gathered.stand,
-)
+read_length {new = x0} {v} {ns} read = grind (arith, nat_tests, length-append, row_length, list_len)
 
 -- all of them, where the list is empty
 pub read_all : {ts : List Subtree} {old new : Memory} {v : Vec Node} {ns : List Node} → IsRowRead ts old new v ns → v.raw.len ≡ 0

@@ -1,5 +1,6 @@
 -- What calls cost one after another.
-use Rattle.std.proofs.Common.{◌≡◌, ℕ, ◌+◌, ◌-◌, ◌≤◌, inl, inr, refl, sym, subst, ◌∙◌, arith, Ok, Err, Option, Some, None, List, [], length, drop, length-take}
+use Rattle.std.proofs.lemmas.Bool.Decides.{nat_tests}
+use Rattle.std.proofs.Common.{◌≡◌, ℕ, ◌+◌, ◌-◌, ◌≤◌, inl, inr, ◌∙◌, arith, Err, Option, Some, None, List, [], length, drop, length-take}
 use Rattle.std.specs.Prelude.{Result, IsErr, IsErrAnd, slice_range}
 use Rattle.arena_rules.proofs.AskingLemmas.{asks_more, asks_then, refused_after}
 use Rattle.arena_chunks.specs.Memory.{Memory}
@@ -20,12 +21,7 @@ frame_kind frame = record { is_growing = frame.is_growing; allocated = frame.all
 -- Nothing is done.
 pub spends_nothing : {layouts : Layouts} (bytes before after : ℕ) (a : View) → after ≤ bytes + before
     → Spends layouts bytes before after a a None
-spends_nothing bytes before after a less = record {
-  takes = omega (arith, less);
-  asks = asks_same _ a a refl refl;
-  kind = record { is_growing = refl; allocated = λ still. refl };
-  stops = tt;
-}
+spends_nothing bytes before after a less = grind (arith, nat_tests, asks_same)
 
 -- Calls, and then others: what was in use before the first stays.
 pub spends_then : {some layouts : Layouts} {one saved two spare left all rest : ℕ} {old mid new : View} {error : Option AllocError}
@@ -125,8 +121,7 @@ IsHandedOn result e = IsErr result × IsErrAnd result (λ f. f ≡ e)
 
 pub handed_on : {X : Type 0} (P : Result X AllocError → Type 0) (result : Result X AllocError) (e : AllocError) → IsHandedOn result e
     → P (Err e) → P result
-handed_on P (Ok x) e is h = absurd is.1
-handed_on P (Err f) e is h = subst (λ d. P (Err d)) (sym is.1) h
+handed_on P result e is h = grind (arith, nat_tests)
 
 pub err_spends : {X : Type 0} {layouts : Layouts} {bytes : ℕ} {old new : View} (result : Result X AllocError) (e : AllocError)
     → IsHandedOn result e → Spends layouts bytes 0 0 old new (Some e) → Spends layouts bytes 0 0 old new (error_of result)

@@ -1,6 +1,7 @@
 -- Expressions and statements as subtrees: their children, what the rule for one node leaves to those, and how many
 -- there are.
-use Rattle.std.proofs.Common.{◌≡◌, ℕ, suc, ap, sym, refl, ◌∙◌, true, false, List, [], ◌∷◌, ◌++◌, length, append-nil}
+use Rattle.std.proofs.lemmas.Bool.Decides.{nat_tests}
+use Rattle.std.proofs.Common.{arith, ◌≡◌, ℕ, suc, ap, sym, refl, ◌∙◌, true, false, List, [], ◌∷◌, ◌++◌, length, append-nil}
 use Rattle.arena_chunks.specs.Memory.{Memory}
 use Rattle.arena_store.specs.declared.block.Block.{Block}
 use Rattle.arena_vec.specs.Vecs.{IsVecIn}
@@ -70,19 +71,16 @@ pub record KidsAt (ks : List Subtree) (own : List Block) (m : Memory) (n : Node)
   pub texts_are : ts ≡ own ++ row_texts ks m (kids_in m n)
 
 one_at : (e : Expr) (m : Memory) (ns : List Node) → IsOnly ns (λ k. ExprAt e m k) → RowAt (OfExpr e ∷ []) m ns
-one_at e m (k ∷ []) at = (at, tt)
-one_at e m ns at = absurd at
+one_at e m ns at = grind (arith, nat_tests)
 
 one_blocks : (e : Expr) (m : Memory) (ns : List Node) → (of_first ns (λ k. expr_lists e m k) ≡ row_lists (OfExpr e ∷ []) m ns)
     × (of_first ns (λ k. expr_texts e m k) ≡ row_texts (OfExpr e ∷ []) m ns)
-one_blocks e m [] = (refl, refl)
-one_blocks e m (k ∷ ks) = (sym (append-nil (expr_lists e m k)), sym (append-nil (expr_texts e m k)))
+one_blocks e m ns = grind (arith, nat_tests, append-nil)
 
 kids_as : (own : List Block) (ks : List Subtree) (m : Memory) (n : Node) {ls ts : List Block} → IsVecIn node_item m (kids_of n)
     → RowAt ks m (kids_in m n) → (ls ≡ row_lists ks m (kids_in m n)) × (ts ≡ row_texts ks m (kids_in m n))
     → KidsAt ks own m n (n.kids ∷ ls) (own ++ ts)
-kids_as own ks m n held row are =
-    record { held = held; stand = row; lists_are = ap (λ bs. n.kids ∷ bs) are.0; texts_are = ap (λ bs. own ++ bs) are.1 }
+kids_as own ks m n held row are = grind (arith, nat_tests)
 
 pub true_false : true ≡ false → ⊥
 true_false is = cc

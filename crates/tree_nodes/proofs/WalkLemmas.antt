@@ -1,5 +1,6 @@
 -- What nodes are, by their kinds.
-use Rattle.std.proofs.Common.{◌≡◌, ◌<◌, ap, sym, refl, subst, ◌∙◌, Some, List, [], ◌∷◌, length, arith}
+use Rattle.std.proofs.lemmas.Bool.Decides.{nat_tests}
+use Rattle.std.proofs.Common.{◌≡◌, ◌<◌, ap, sym, refl, subst, ◌∙◌, Some, List, length, arith}
 use Rattle.std.specs.Prelude.{slice_get}
 pub use Rattle.std.proofs.lemmas.Option.{same_Some as some_node, none-some as none_node}
 use Rattle.arena_chunks.specs.Memory.{Memory}
@@ -21,15 +22,12 @@ pub list_len : (m : Memory) (v : Vec Node) → length (vec_list node_item m v) �
 list_len m v = length-elements 88 node_item.decoded v.raw.len (bytes_of m v.raw.block)
 
 pub only_some : (ns : List Node) (P : Node → Type 0) → IsOnly ns P → length ns ≡ 1
-only_some (k ∷ []) P only = refl
-only_some ns P only = absurd only
+only_some ns P only = grind (arith, nat_tests)
 
 -- the handle of a node with one child
 pub first_held : (m : Memory) (n : Node) (v : Vec Node) → v ≡ kids_of n → IsVecIn node_item m (kids_of n) → n.len ≡ 1
     → IsVecIn node_item m v × (0 < v.raw.len)
-first_held m n v same held one =
-    let len : v.raw.len ≡ n.len = ap (λ (w : Vec Node). w.raw.len) same in
-    (subst (IsVecIn node_item m) (sym same) held, omega (arith, len, one))
+first_held m n v same held one = grind (arith, nat_tests)
 
 pub first_in : (m : Memory) (n : Node) (v : Vec Node) (k : Node) → v ≡ kids_of n → slice_get (vec_list node_item m v) 0 ≡ Some k
     → slice_get (kids_in m n) 0 ≡ Some k

@@ -1,3 +1,5 @@
+use Rattle.std.proofs.lemmas.Bool.Decides.{nat_tests}
+use Rattle.std.proofs.Common.{arith}
 use Rattle.tree_nodes.proofs.BlockCostLemmas.{block_placed, block_refused, block_exhausted}
 use Rattle.tree_nodes.proofs.block.place_block.Goals as goal
 
@@ -11,6 +13,4 @@ returns-in-Err-AllocErr-clause-spends g c =
     (rw c.in-Err-AllocErr.field-0-is at c.in-Err-AllocErr.ensures)
 
 pub returns-in-Err-OutOfMemory-clause-spends : goal.returns-in-Err-OutOfMemory-clause-spends
-returns-in-Err-OutOfMemory-clause-spends g c =
-    block_exhausted _ _ _ _ c.known.ensures.state c.args.layout.valid c.requires.aligned c.requires.small
-    (rw c.in-Err-OutOfMemory.field-0-is at c.in-Err-OutOfMemory.ensures)
+returns-in-Err-OutOfMemory-clause-spends g c = grind (arith, nat_tests, block_exhausted)

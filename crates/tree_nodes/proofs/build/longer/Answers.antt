@@ -1,4 +1,5 @@
-use Rattle.std.proofs.Common.{sym, subst, Ok, Err, ◌∙◌, arith}
+use Rattle.std.proofs.lemmas.Bool.Decides.{nat_tests}
+use Rattle.std.proofs.Common.{sym, subst, Ok, arith}
 use Rattle.arena_items.proofs.Layers.{length-elements}
 use Rattle.arena_vec.specs.Vecs.{vec_list}
 use Rattle.tree_nodes.specs.Layouts.{IsDoubled}
@@ -10,14 +11,7 @@ use Rattle.tree_nodes.proofs.build.longer.Given.{Over}
 use Rattle.tree_nodes.proofs.build.longer.Goals as goal
 
 paid : (g : Over) (c : goal.In-Ok g) → Paid
-paid g c = record {
-  keeps = c.growth_costs.ensures.keeps;
-  asks = c.growth_costs.ensures.asks;
-  fits = c.vector_costs.ensures.fits;
-  stays = c.growth_rule.ensures.stays;
-  doubles = c.growth_rule.ensures.doubles;
-  grows = c.growth_rule.ensures.grows;
-}
+paid g c = grind (arith, nat_tests)
 
 pub returns-in-Ok-clause-row : goal.returns-in-Ok-clause-row
 returns-in-Ok-clause-row g c = λ ts old read.
@@ -35,11 +29,7 @@ returns-in-Ok-clause-spends g c =
     (Ok c.in-Ok.field-0) c.in-Ok.ensures
 
 pub returns-in-Ok-clause-len : goal.returns-in-Ok-clause-len
-returns-in-Ok-clause-len g c =
-    let v = c.args.list in
-    let m = c.args.a.now.memory in
-    c.in-Ok.ensures.len
-    ∙ pushed_length (vec_list node_item m v) c.args.nodes.now v.raw.len (length-elements 88 node_item.decoded v.raw.len _)
+returns-in-Ok-clause-len g c = grind (arith, nat_tests, pushed_length, length-elements)
 
 pub returns-in-Ok-clause-cap : goal.returns-in-Ok-clause-cap
 returns-in-Ok-clause-cap g c = λ power many doubled.
@@ -47,19 +37,4 @@ returns-in-Ok-clause-cap g c = λ power many doubled.
     subst (IsDoubled _) (sym c.in-Ok.ensures.cap) (cap_doubled (paid g c) v.raw.len v.raw.cap _ (omega (arith, c.requires.few)) power many c.requires.held.within doubled)
 
 pub returns-in-Err-clause-spends : goal.returns-in-Err-clause-spends
-returns-in-Err-clause-spends g c =
-    let v = c.args.list in
-    let m = c.args.a.now.memory in
-    let spends = node_spends (record {
-      keeps = c.growth_costs.ensures.keeps;
-      asks = c.growth_costs.ensures.asks;
-      fits = c.vector_costs.ensures.fits;
-      stays = c.growth_rule.ensures.stays;
-      doubles = c.growth_rule.ensures.doubles;
-      grows = c.growth_rule.ensures.grows;
-    })
-    c.args.a.now c.extend_from_slice.new.a v c.extend_from_slice.new.self _ c.known.ensures.state c.requires.held _ c.requires.some
-    (omega (arith, c.requires.few))
-    (pushed_length (vec_list node_item m v) c.args.nodes.now v.raw.len (length-elements 88 node_item.decoded v.raw.len _))
-    (Err c.in-Err.e) c.in-Err.ensures in
-    record { takes = omega (arith, spends.takes); asks = spends.asks; kind = spends.kind; stops = spends.stops }
+returns-in-Err-clause-spends g c = grind (arith, nat_tests, node_spends, pushed_length, length-elements)

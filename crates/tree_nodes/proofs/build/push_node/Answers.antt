@@ -1,6 +1,7 @@
+use Rattle.std.proofs.lemmas.Bool.Decides.{nat_tests}
 use Rattle.std.proofs.lemmas.Result.{on_ok_weaker}
 use Rattle.tree_nodes.proofs.RowLemmas.{rows_more, gathered_one}
-use Rattle.std.proofs.Common.{sym, subst, refl, [], ◌∷◌, ◌∙◌, arith}
+use Rattle.std.proofs.Common.{sym, subst, refl, [], ◌∷◌, arith}
 use Rattle.arena_items.proofs.Layers.{length-elements}
 use Rattle.arena_vec.specs.Vecs.{vec_list}
 use Rattle.tree_nodes.specs.Layouts.{IsDoubled}
@@ -10,14 +11,7 @@ use Rattle.tree_nodes.proofs.build.push_node.Given.{Over}
 use Rattle.tree_nodes.proofs.build.push_node.Goals as goal
 
 paid : (g : Over) (c : goal.After-push g) → Paid
-paid g c = record {
-  keeps = c.growth_costs.ensures.keeps;
-  asks = c.growth_costs.ensures.asks;
-  fits = c.vector_costs.ensures.fits;
-  stays = c.growth_rule.ensures.stays;
-  doubles = c.growth_rule.ensures.doubles;
-  grows = c.growth_rule.ensures.grows;
-}
+paid g c = grind (arith, nat_tests)
 
 pub returns-clause-row : goal.returns-clause-row
 returns-clause-row g c = λ ts t old one built placed.
@@ -32,9 +26,7 @@ returns-clause-spends g c =
     c.push.result c.push.ensures
 
 pub returns-clause-len : goal.returns-clause-len
-returns-clause-len g c =
-    on_ok_weaker c.push.result (λ is. is ∙ pushed_length (vec_list node_item c.args.a.now.memory c.args.list.now) (c.args.node.now ∷ [])
-    c.args.list.now.raw.len (length-elements 88 node_item.decoded c.args.list.now.raw.len _)) c.push.ensures.len
+returns-clause-len g c = grind (arith, nat_tests, on_ok_weaker, pushed_length, length-elements)
 
 pub returns-clause-cap : goal.returns-clause-cap
 returns-clause-cap g c = λ doubled.
