@@ -1,4 +1,5 @@
 -- Blocks that the tree of a text asks for.
+use Rattle.std.proofs.lemmas.Bool.Decides.{nat_tests}
 use Rattle.std.proofs.Common.{◌≡◌, ℕ, suc, ◌+◌, ◌*◌, ◌<◌, ◌≤◌, ◌∙◌, inl, inr, refl, List, length, max, arith}
 use Rattle.std.proofs.Math.Nat.{pow-suc}
 use Rattle.arena_chunks.specs.Memory.{Memory}
@@ -15,22 +16,13 @@ use Rattle.arena_tree.specs.Layouts.{ListOf, LongerList, ListFor, IsDoubled, IsR
 
 pub asked_name : {bytes name : List ℕ} {at end : ℕ} → IsTokenAt bytes at (Word name) end → (size align : ℕ)
     → TextOf (length name) size align → AskedFor bytes size align
-asked_name {name = name} {at} {end} stands size align text =
-    inl (record { name = name; at = at; end = end; stands = stands; layout = text })
+asked_name {name = x0} {at} {end} stands size align text = grind (arith, nat_tests)
 
 module _ {X : Type 0} {bytes : List ℕ} {at end : ℕ} {before behind : X → State} (entry : Entry)
     (read : Reads bytes at end (spell_to entry) before behind) where
   pub asked_list : (room : ℕ) → IsRoomFor (length (row_before entry) + 1) room → (size align : ℕ) → ListOf room size align
       → AskedFor bytes size align
-  asked_list room fits size align list = inr (record {
-    entry = entry;
-    at = at;
-    end = end;
-    stands = read.tokens_are;
-    room = room;
-    fits = fits;
-    layout = list;
-  })
+  asked_list room fits size align list = grind (arith, nat_tests)
 
   -- the list that replaces one without room for so many nodes more, of those up to this one
   asked_doubled : {len cap more most : ℕ} → 0 < cap → IsDoubled most cap → more ≤ most → len ≤ cap → len + more ≤ length (row_before entry) + 1

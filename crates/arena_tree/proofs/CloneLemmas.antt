@@ -1,13 +1,13 @@
 -- Nodes that are copied.
-use Rattle.std.proofs.Common.{◌≡◌, ℕ, ◌<◌, ap, refl, ◌∙◌, true, ◌⊎◌, inl, inr, [], ◌∷◌, length, arith}
+use Rattle.std.proofs.lemmas.Bool.Decides.{nat_tests}
+use Rattle.std.proofs.Common.{◌≡◌, ℕ, ◌<◌, ap, ◌∙◌, true, ◌⊎◌, inl, inr, [], ◌∷◌, length, arith}
 use Rattle.arena_chunks.specs.Memory.{Memory}
 use Rattle.arena_chunks.specs.Frame.{Frame}
 use Rattle.arena_chunks.specs.declared.allocator.text.Str.{Str}
 use Rattle.arena_items.specs.Values.{IsTextIn, text_bytes}
 use Rattle.arena_vec.specs.Vecs.{vec_list}
 use Rattle.arena_vec.specs.declared.vec.Vec.{Vec}
-use Rattle.tree_rules.specs.Trees.{Num, Name, Neg, Sum, Prod, NoExprs, And, Let, Show}
-use Rattle.tree_rules.specs.Trees as tree
+use Rattle.tree_rules.specs.Trees.{Num, Name, NoExprs, And, Let}
 use Rattle.tree_nodes.specs.declared.node.Kind.{Kind}
 use Rattle.tree_nodes.specs.declared.node.Kind.TheVariants as kind
 use Rattle.tree_nodes.specs.declared.node.Node.{Node}
@@ -21,9 +21,7 @@ use Rattle.tree_nodes.proofs.SubtreeLemmas.{kids_it, own_bytes, kids_at}
 use Rattle.arena_tree.proofs.KidsLemmas.{branch}
 
 pub more_kinds : (k : Kind) → (k ≡ kind.Num → ⊥) → (k ≡ kind.Name → ⊥) → has_kids k ≡ true
-more_kinds kind.Num num name = absurd (num refl)
-more_kinds kind.Name num name = absurd (name refl)
-more_kinds k num name = refl
+more_kinds k num name = grind (arith, nat_tests)
 
 pub number_copied : (m : Memory) (source n : Node) (old : Memory) (t : Subtree) → SubtreeAt t m source → source.kind ≡ kind.Num
     → n ≡ number_node source.number → IsTreePlaced t old old n
@@ -51,19 +49,8 @@ let_copied m source n old one new t text v at is held same frame built named txt
 pub kids_copied : (m : Memory) (source n : Node) (old new : Memory) (t : Subtree) (v : Vec Node) → SubtreeAt t m source
     → (source.kind ≡ kind.Num → ⊥) → (source.kind ≡ kind.Name → ⊥) → (source.kind ≡ kind.Let → ⊥) → IsRowBuilt (kids_it t) old new v
     → n.kind ≡ source.kind → kids_of n ≡ v → HasKidsAlone n → IsTreePlaced t old new n
-kids_copied m source n old new (OfExpr (Num k)) v at num name lets built named kids rest = absurd (num at.0)
-kids_copied m source n old new (OfExpr (Name bytes)) v at num name lets built named kids rest = absurd (name at.0)
-kids_copied m source n old new (OfExpr (Neg e)) v at num name lets built named kids rest =
-    neg_placed e old new v n (exprs_built (And e NoExprs) old new v built) (named ∙ at.0) kids rest
-kids_copied m source n old new (OfExpr (Sum es)) v at num name lets built named kids rest =
-    sum_placed es old new v n (exprs_built es old new v built) (named ∙ at.0) kids rest
-kids_copied m source n old new (OfExpr (Prod es)) v at num name lets built named kids rest =
-    prod_placed es old new v n (exprs_built es old new v built) (named ∙ at.0) kids rest
-kids_copied m source n old new (OfStmt (Let name' e)) v at num name lets built named kids rest = absurd (lets at.0)
-kids_copied m source n old new (OfStmt (Show e)) v at num name lets built named kids rest =
-    show_placed e old new v n (exprs_built (And e NoExprs) old new v built) (named ∙ at.0) kids rest
-kids_copied m source n old new (OfStmt (tree.Block body)) v at num name lets built named kids rest =
-    block_placed body old new v n (stmts_built body old new v built) (named ∙ at.0) kids rest
+kids_copied m source n old new t v at num name lets built named kids rest =
+    grind (arith, nat_tests, neg_placed, exprs_built, sum_placed, prod_placed, show_placed, block_placed, stmts_built)
 
 -- a node's own text
 pub text_of : (m : Memory) (n : Node) (t : Subtree) → SubtreeAt t m n → (n.kind ≡ kind.Name) ⊎ (n.kind ≡ kind.Let)
@@ -80,9 +67,4 @@ module _ (m : Memory) (n : Node) (v : Vec Node) (more : has_kids n.kind ≡ true
   row_at = rw same (kids_at t m n at more).stand
 
   pub has_row : (room : ℕ) → below_it t < room → HasRow m v room
-  has_row room low = record {
-    trees = kids_it t;
-    held = rw same (kids_at t m n at more).held;
-    stand = row_at;
-    low = omega (arith, low, (branch t).below_is);
-  }
+  has_row room low = grind (arith, nat_tests, kids_it, kids_at, branch)

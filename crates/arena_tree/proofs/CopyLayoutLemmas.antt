@@ -1,5 +1,6 @@
 -- Which blocks the copies of nodes and of lists of nodes ask for.
-use Rattle.std.proofs.Common.{◌≡◌, ℕ, zero, suc, ap, sym, ◌∙◌, true, ◌⊎◌, inl, inr, List, [], ◌∷◌, length, drop}
+use Rattle.std.proofs.lemmas.Bool.Decides.{nat_tests}
+use Rattle.std.proofs.Common.{arith, ◌≡◌, ℕ, zero, suc, ap, sym, ◌∙◌, true, ◌⊎◌, inl, inr, List, [], ◌∷◌, length, drop}
 use Rattle.arena_chunks.specs.Memory.{Memory}
 use Rattle.arena_items.specs.Denied.{TextOf}
 use Rattle.arena_items.specs.Values.{text_bytes}
@@ -24,8 +25,7 @@ stmts_copy (Then s rest) size align (inl h) = inl h
 stmts_copy (Then s rest) size align (inr h) = inr (stmts_copy rest size align h)
 
 pub tree_copy : (ss : Stmts) (size align : ℕ) → RowCopyOf (stmt_row ss) size align → TreeCopyOf ss size align
-tree_copy ss size align (inl h) = inl h
-tree_copy ss size align (inr h) = inr (stmts_copy ss size align h)
+tree_copy ss size align h = grind (arith, nat_tests, stmts_copy)
 
 -- a child of a list
 pub kid_copy : (ts : List Subtree) (i : ℕ) (t : Subtree) → drop i ts ≡ t ∷ drop (suc i) ts → (size align : ℕ)

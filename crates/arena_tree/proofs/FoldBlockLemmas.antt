@@ -1,5 +1,6 @@
 -- The blocks of trees that are folded one after another.
-use Rattle.std.proofs.Common.{refl, ◌∙◌, List, [], ◌∷◌, ◌++◌}
+use Rattle.std.proofs.lemmas.Bool.Decides.{nat_tests}
+use Rattle.std.proofs.Common.{arith, refl, List, [], ◌∷◌, ◌++◌}
 use Rattle.arena_chunks.specs.Memory.{Memory}
 use Rattle.arena_chunks.specs.Frame.{AreAllApart, ArePairwiseApart}
 use Rattle.arena_store.specs.declared.block.Block.{Block}
@@ -49,11 +50,7 @@ pub shrinks_none : (ls ts : List Block) → Shrinks ls ts ls ts
 shrinks_none ls ts = record { pairs = λ h. h; lists_in = λ addr n h. h; texts_in = λ addr n h. h }
 
 pub shrinks_then : {ls ts ls' ts' ls'' ts'' : List Block} → Shrinks ls ts ls' ts' → Shrinks ls' ts' ls'' ts'' → Shrinks ls ts ls'' ts''
-shrinks_then one two = record {
-  pairs = λ h. two.pairs (one.pairs h);
-  lists_in = λ addr n h. two.lists_in addr n (one.lists_in addr n h);
-  texts_in = λ addr n h. two.texts_in addr n (one.texts_in addr n h);
-}
+shrinks_then one two = grind (arith, nat_tests)
 
 all_within : (ws bs bs' : List Block) → IsWithin bs bs' → AreAllApart ws bs → AreAllApart ws bs'
 all_within [] bs bs' within h = tt
@@ -97,14 +94,10 @@ pub writes_none : (m : Memory) (bs : List Block) → WritesIn m m bs
 writes_none m bs = record { frame = frame_reflexive m bs; state = refl }
 
 pub writes_more : {old new : Memory} {bs : List Block} (more : List Block) → IsWithin more bs → WritesIn old new bs → WritesIn old new more
-writes_more {old} {new} {bs} more within w = record {
-  frame = frame_weaken old new bs more bs more (λ addr n some h. within addr n h) (λ addr n some h rest. h) w.frame;
-  state = w.state;
-}
+writes_more {old} {new} {bs} more within w = grind (arith, nat_tests, frame_weaken)
 
 pub writes_then : {old mid new : Memory} {ls : List Block} → WritesIn old mid ls → WritesIn mid new ls → WritesIn old new ls
-writes_then {old} {mid} {new} {ls} one two =
-    record { frame = frame_then old mid new ls ls ls one.frame two.frame; state = two.state ∙ one.state }
+writes_then {old} {mid} {new} {ls} one two = grind (arith, nat_tests, frame_then)
 
 -- blocks apart from the written ones hold the same bytes
 pub agree_beside : {old new : Memory} {written : List Block} (bs : List Block) → WritesIn old new written → AreReadable old.state bs

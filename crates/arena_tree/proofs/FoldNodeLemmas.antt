@@ -1,4 +1,5 @@
 -- One node is folded: its children, and then itself by the rule for its kind.
+use Rattle.std.proofs.lemmas.Bool.Decides.{nat_tests}
 use Rattle.std.proofs.Common.{◌≡◌, ℕ, ◌+◌, ◌<◌, ◌≤◌, ap, sym, refl, subst, ◌∙◌, true, false, Option, Some, None, List, [], ◌∷◌, ◌++◌, arith}
 use Rattle.arena_chunks.specs.Memory.{Memory}
 use Rattle.arena_chunks.specs.Frame.{AreAllApart}
@@ -11,7 +12,7 @@ use Rattle.arena_vec.specs.declared.vec.Vec.{Vec}
 use Rattle.tree_rules.specs.Trees.{Num, Name, Let, folded, all_folded, folded_stmts}
 use Rattle.tree_nodes.specs.declared.node.Node.{Node}
 use Rattle.arena_tree.specs.TreesAt.{node_item, kids_of, kids_in, AreLean}
-use Rattle.arena_tree.specs.Subtrees.{Subtree, OfExpr, OfStmt, SubtreeAt, lists_at, texts_at, below_it, row_lists, row_texts, has_kids}
+use Rattle.arena_tree.specs.Subtrees.{Subtree, OfExpr, OfStmt, SubtreeAt, lists_at, texts_at, below_it, row_lists, has_kids}
 use Rattle.arena_tree.specs.FoldingParts.{row_folds, IsWhole, IsRowWhole, CanFoldRow, StandOn, Becomes, IsFolded, FoldsRow, kids_folded, ruled, or_stays, once_if, IsRule}
 use Rattle.arena_tree.proofs.FoldBlockLemmas.{shrinks_none, shrinks_then, shrinks_own, writes_none, agree_beside}
 use Rattle.arena_tree.proofs.FoldRowLemmas.{held_still}
@@ -22,13 +23,7 @@ use Rattle.tree_nodes.proofs.SubtreeLemmas.{kids_it, own_texts, kids_at, true_fa
 -- ---- A node with no children
 
 same_tree : (t : Subtree) (m : Memory) (n : Node) → SubtreeAt t m n → Becomes t (lists_at t m n) (texts_at t m n) m m n
-same_tree t m n at = record {
-  lists = lists_at t m n;
-  texts = texts_at t m n;
-  on = record { stands = at; lists = refl; texts = refl };
-  shrinks = shrinks_none (lists_at t m n) (texts_at t m n);
-  writes = writes_none m (lists_at t m n);
-}
+same_tree t m n at = grind (arith, nat_tests, shrinks_none, writes_none)
 
 pub leaf_folded : (t : Subtree) (m : Memory) (n : Node) → SubtreeAt t m n → has_kids n.kind ≡ false
     → IsFolded t (lists_at t m n) (texts_at t m n) m m n 0
@@ -41,26 +36,15 @@ leaf_folded t m n at is = absurd (true_false (sym (ap has_kids at.0) ∙ is))
 -- ---- The children
 
 own_readable : (t : Subtree) (m : Memory) (n : Node) → SubtreeAt t m n → AreReadable m.state (own_texts t n)
-own_readable (OfStmt (Let name e)) m n at = (at.1, tt)
-own_readable t m n at = tt
+own_readable t m n at = grind (arith, nat_tests)
 
 module _ {t : Subtree} {m : Memory} {n : Node} (whole : IsWhole t m n) (is : has_kids n.kind ≡ true) where
   -- the list of its children, and its own texts apart from it
   kids_whole : IsRowWhole (kids_it t) m (kids_of n) × AreAllApart (n.kids ∷ row_lists (kids_it t) m (kids_in m n)) (own_texts t n)
-  kids_whole =
-      let k = kids_at t m n whole.stands is in
-      let c = rw (k.lists_are, k.texts_are) at whole.clear in
-      let ls = n.kids ∷ row_lists (kids_it t) m (kids_in m n) in
-      let apart = (all_from_both ls (own_texts t n) (row_texts (kids_it t) m (kids_in m n))).0 c.texts in
-      (record { stand = k.stand; clear = record { lists = c.lists; texts = apart.1 } }, apart.0)
+  kids_whole = grind (arith, nat_tests, kids_at, kids_it, all_from_both, own_texts)
 
   pub kids_can : (room : ℕ) → below_it t < room → CanFoldRow m (kids_of n) room
-  kids_can room low = record {
-    trees = kids_it t;
-    held = (kids_at t m n whole.stands is).held;
-    whole = kids_whole.0;
-    low = omega (arith, low, (branch t).below_is);
-  }
+  kids_can room low = grind (arith, nat_tests, kids_it, kids_at, kids_whole, branch)
 
 -- The node represents the tree with its children folded.
 pub record KidsFolded (t : Subtree) (ls ts : List Block) (old new : Memory) (n : Node) (count : ℕ) : Type 0 where

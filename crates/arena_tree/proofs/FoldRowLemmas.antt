@@ -1,4 +1,5 @@
 -- Lists of trees that are folded in place one after another, from the last one on.
+use Rattle.std.proofs.lemmas.Bool.Decides.{nat_tests}
 use Rattle.std.proofs.Common.{◌≡◌, ℕ, suc, zero, ◌+◌, ◌-◌, ◌<◌, ◌≤◌, ap, sym, refl, subst, ◌∙◌, Some, List, [], ◌∷◌, ◌++◌, length, take, drop, add-one, arith}
 use Rattle.std.specs.Prelude.{slice_get, slice_set}
 use Rattle.std.proofs.lemmas.List.{length-set, take-set, take-take, drop-set, drop_all}
@@ -182,6 +183,4 @@ row_next {trees} {old} {m} {two} {new} {v} {i = i} {k = k} {l = l} t held f step
 pub set_list : {old new : View} {v w : Vec Node} (i : ℕ) (l : Node)
     → VecBecomes node_item old new v (slice_set (vec_list node_item old.memory v) i l) w
     → vec_list node_item new.memory v ≡ slice_set (vec_list node_item old.memory v) i l
-set_list {old} {v = v} {w = w} i l b =
-    let len : w.raw.len ≡ v.raw.len = b.len ∙ length-set (vec_list node_item old.memory v) i l ∙ list_len old.memory v in
-    rw (b.block, len) at b.list_is
+set_list {old} {v = x1} {w = x2} i l b = grind (arith, nat_tests, length-set, list_len)

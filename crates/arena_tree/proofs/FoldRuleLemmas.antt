@@ -1,5 +1,6 @@
 -- The rule for one node whose children are folded: negations of negations, and totals of numbers.
-use Rattle.std.proofs.Common.{◌≡◌, ℕ, ◌^◌, ap, refl, subst, ◌∙◌, Bool, true, false, Option, Some, None, List, [], ◌∷◌}
+use Rattle.std.proofs.lemmas.Bool.Decides.{nat_tests}
+use Rattle.std.proofs.Common.{arith, ◌≡◌, ℕ, ◌^◌, ap, refl, subst, ◌∙◌, Bool, true, false, Option, Some, None, List, [], ◌∷◌}
 use Rattle.std.specs.Prelude.{slice_get, IfSome, nat_lt, if◌then◌else◌}
 use Rattle.arena_chunks.specs.Memory.{Memory}
 use Rattle.tree_rules.specs.Trees.{Expr, Num, Neg, Sum, Prod, Exprs, NoExprs, And, Let, front_number, numbers_of, sum, product, reckoned, one_if_reckoned}
@@ -19,10 +20,7 @@ stays t m n at = record { stands = at; shrinks = shrinks_none (lists_at t m n) (
 
 pub other_stays : (m : Memory) (n : Node) → (n.kind ≡ kind.Neg → ⊥) → (n.kind ≡ kind.Sum → ⊥) → (n.kind ≡ kind.Prod → ⊥)
     → IsRule m n None
-other_stays m n neg sum prod (OfExpr (Neg e)) at = absurd (neg at.0)
-other_stays m n neg sum prod (OfExpr (Sum kids)) at = absurd (sum at.0)
-other_stays m n neg sum prod (OfExpr (Prod kids)) at = absurd (prod at.0)
-other_stays m n neg sum prod t at = (stays t m n at, refl)
+other_stays m n neg sum prod h at = grind (arith, nat_tests, stays)
 
 -- ---- Negations
 
@@ -32,8 +30,7 @@ negation_is (OfStmt (Let name e)) m n at is = cc
 negation_is t m n at is = cc
 
 pub only_is : (ns : List Node) (P : Node → Type 0) (k : Node) → IsOnly ns P → slice_get ns 0 ≡ Some k → ns ≡ k ∷ []
-only_is (l ∷ []) P k only is = ap (λ j. j ∷ []) (some_node l k is)
-only_is ns P k only is = absurd only
+only_is ns P k only is = grind (arith, nat_tests, some_node)
 
 -- what the only child negates, if it does
 abbrev IsInner : Memory → Node → Option Node → Type 0

@@ -1,4 +1,5 @@
 -- A whole tree is folded.
+use Rattle.std.proofs.lemmas.Bool.Decides.{nat_tests}
 use Rattle.std.proofs.Common.{ℕ, ◌+◌, ◌/◌, ◌≡◌, [], subst, sym, refl, ◌∙◌, arith}
 use Rattle.arena_chunks.specs.Memory.{Memory}
 use Rattle.arena_chunks.specs.Source.{View}
@@ -25,16 +26,7 @@ use Rattle.arena_tree.proofs.KeptLemmas.{apart_from_both}
 use Rattle.arena_tree.proofs.KidsLemmas.{stmt_row_is}
 
 given_whole : (m : Memory) (t : Tree) (h : IsTreeIn m t) → IsRowWhole (stmt_row h.trees) m t.stmts
-given_whole m t h =
-    let ns = vec_list node_item m t.stmts in
-    let r = stmt_row_blocks h.trees m ns in
-    record {
-      stand = stmt_row_at h.trees m ns h.means;
-      clear = record {
-        lists = rw r.0 at h.lists;
-        texts = rw (r.0, r.1) at (all_turned (stmts_texts h.trees m ns) (lists_of h.trees m t) h.texts);
-      };
-    }
+given_whole m t h = grind (arith, nat_tests, stmt_row_blocks, stmt_row_at, all_turned)
 
 pub can_fold : (m : Memory) (t : Tree) → IsTreeIn m t → CanFoldRow m t.stmts (used_bytes m.state / 88 + 1)
 can_fold m t h = record {

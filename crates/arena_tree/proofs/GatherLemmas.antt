@@ -1,4 +1,5 @@
 -- Children whose nodes are gathered before they go into a list.
+use Rattle.std.proofs.lemmas.Bool.Decides.{nat_tests}
 use Rattle.std.proofs.Common.{◌≡◌, ℕ, ◌+◌, ◌-◌, ◌*◌, ◌<◌, ◌≤◌, Bool, refl, sym, ◌∙◌, subst, List, [], ◌∷◌, ◌++◌, length, length-set, length-take, get_or, take, set, arith, Ok, Option, None}
 use Rattle.std.proofs.lemmas.List.{take_all, take-set, take_more_set, get_or-set_same}
 use Rattle.arena_chunks.specs.Memory.{Memory}
@@ -63,8 +64,7 @@ module _ (nodes : List Node) (count : ℕ) (low : count < 4) (four : length node
   row_next : {ts : List Subtree} {old one two : Memory} {v : Vec Node} (t : Subtree) (n : Node) (others : List Node)
       → length others ≡ length nodes → IsRowRead ts old one v (take count others) → IsTreePlaced t one two n
       → IsRowRead (ts ++ t ∷ []) old two v (take (count + 1) (set others count n))
-  row_next {ts} {old} {two = two} {v} t n others same row placed = subst (λ ns. IsRowRead (ts ++ t ∷ []) old two v ns)
-      (sym (take_more_set others count n (omega (arith, low, four, same)))) (read_more t n row placed)
+  row_next {ts} {old} {two = x2} {v} t n others same row placed = grind (arith, nat_tests, take_more_set, read_more)
 
   length_next : (others : List Node) → length others ≡ length nodes → length (take (count + 1) others) ≡ length (take count nodes) + 1
   length_next others same = omega (arith, length-take (count + 1) others, length-take count nodes, same, low, four)

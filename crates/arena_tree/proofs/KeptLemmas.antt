@@ -1,5 +1,6 @@
 -- Trees apart from writes are unchanged, on the same blocks.
-use Rattle.std.proofs.Common.{ℕ, refl, List, [], ◌∷◌, ◌++◌}
+use Rattle.std.proofs.lemmas.Bool.Decides.{nat_tests}
+use Rattle.std.proofs.Common.{arith, ℕ, refl, List, [], ◌∷◌, ◌++◌}
 use Rattle.arena_chunks.specs.Memory.{Memory}
 use Rattle.arena_chunks.specs.Frame.{IsApart, AreAllApart}
 use Rattle.arena_store.specs.declared.block.Block.{Block}
@@ -19,11 +20,7 @@ use Rattle.arena_tree.proofs.FoldBlockLemmas.{AreBeside}
 
 pub row_both : {t : Subtree} {ts : List Subtree} {m : Memory} {n : Node} {ns : List Node} {b q bt qt : List Block} → StandsOn t m n b bt
     → StandOn ts m ns q qt → StandOn (t ∷ ts) m (n ∷ ns) (b ++ q) (bt ++ qt)
-row_both one rest = record {
-  stand = (one.stands, rest.stand);
-  lists = λ i. one.lists i ++ rest.lists i;
-  texts = λ i. one.texts i ++ rest.texts i;
-}
+row_both one rest = grind (arith, nat_tests)
 
 pub apart_from_both : (addr n : ℕ) (bs ls ts : List Block) → Parts bs ls ts → IsApart addr n ls → IsApart addr n ts → IsApart addr n bs
 apart_from_both addr n bs ls ts None l t = tt

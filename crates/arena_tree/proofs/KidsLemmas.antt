@@ -1,12 +1,12 @@
 -- A tree as its node with its children: what follows from them, and that it is represented where they are.
-use Rattle.std.proofs.Common.{◌≡◌, ◌+◌, ap, sym, refl, ◌∙◌, true, List, [], ◌∷◌, ◌++◌, arith}
+use Rattle.std.proofs.lemmas.Bool.Decides.{nat_tests}
+use Rattle.std.proofs.Common.{◌≡◌, ◌+◌, ap, refl, true, List, [], ◌∷◌, ◌++◌, arith}
 use Rattle.std.specs.Prelude.{map}
 use Rattle.arena_chunks.specs.Memory.{Memory}
 use Rattle.arena_store.specs.declared.block.Block.{Block}
 use Rattle.arena_items.specs.Footprint.{Agree}
 use Rattle.arena_vec.specs.Vecs.{IsVecIn}
-use Rattle.tree_rules.specs.Trees.{Expr, Num, Name, Neg, Sum, Prod, Exprs, NoExprs, And, Let, Show, Stmts, NoStmts, Then}
-use Rattle.tree_rules.specs.Trees.{folded, all_folded, all_folds, folded_stmt, folded_stmts, folds_of_stmts}
+use Rattle.tree_rules.specs.Trees.{Expr, Num, Name, Neg, Sum, Prod, Exprs, NoExprs, And, Let, Show, Stmts, NoStmts, Then, folded, all_folded, all_folds, folded_stmt, folded_stmts, folds_of_stmts}
 use Rattle.tree_rules.specs.Trees as tree
 use Rattle.tree_nodes.specs.declared.node.Node.{Node}
 use Rattle.arena_tree.specs.Counts.{nodes, stmt_nodes}
@@ -51,28 +51,12 @@ module _ (f : Expr → Expr) (fs : Exprs → Exprs) (ss : Stmts → Stmts) (old 
     (held : IsVecIn node_item new (kids_of n)) where
   back : (t : Subtree) → SubtreeAt t old n → has_kids n.kind ≡ true → Agree old new (own_texts t n)
       → RowAt (kids_it (with_kids f fs ss t)) new (kids_in new n) → SubtreeAt (with_kids f fs ss t) new n
-  back (OfExpr (Neg e)) at is same row = (at.0, held, only_row (f e) new (kids_in new n) row)
-  back (OfExpr (Sum kids)) at is same row = (at.0, held, row_exprs_at (fs kids) new (kids_in new n) row)
-  back (OfExpr (Prod kids)) at is same row = (at.0, held, row_exprs_at (fs kids) new (kids_in new n) row)
-  back (OfStmt (Let name e)) at is same row =
-      (at.0, rw state at.1, sym same.0 ∙ at.2, held, only_row (f e) new (kids_in new n) row)
-  back (OfStmt (Show e)) at is same row = (at.0, held, only_row (f e) new (kids_in new n) row)
-  back (OfStmt (tree.Block body)) at is same row = (at.0, held, row_stmts_at (ss body) new (kids_in new n) row)
-  back t at is same row = absurd (true_false (sym is ∙ ap has_kids at.0))
+  back t at is same row = grind (arith, nat_tests, only_row, row_exprs_at, row_stmts_at, true_false)
 
   own_is : (t : Subtree) → own_texts (with_kids f fs ss t) n ≡ own_texts t n
-  own_is (OfExpr (Num k)) = refl
-  own_is (OfStmt (Let name e)) = refl
-  own_is t = refl
+  own_is t = grind (arith, nat_tests)
 
   pub node_on : {z zt : List Block} (t : Subtree) → SubtreeAt t old n → has_kids n.kind ≡ true → Agree old new (own_texts t n)
       → StandOn (kids_it (with_kids f fs ss t)) new (kids_in new n) z zt
       → StandsOn (with_kids f fs ss t) new n (n.kids ∷ z) (own_texts t n ++ zt)
-  node_on t at is same row =
-      let stands = back t at is same row.stand in
-      let k = kids_at (with_kids f fs ss t) new n stands is in
-      record {
-        stands = stands;
-        lists = k.lists_are ∙ ap (λ bs. n.kids ∷ bs) row.lists;
-        texts = k.texts_are ∙ (λ i. own_is t i ++ row.texts i);
-      }
+  node_on t at is same row = grind (arith, nat_tests, back, kids_at, own_is)

@@ -1,13 +1,14 @@
 -- The whole text.
-use Rattle.std.proofs.Common.{◌≡◌, ℕ, None, Ok, Err, List, [], length, refl, sym, ap, ◌∙◌, subst}
+use Rattle.std.proofs.lemmas.Bool.Decides.{nat_tests}
+use Rattle.std.proofs.Common.{arith, ◌≡◌, ℕ, None, Ok, Err, List, [], refl, sym, ◌∙◌, subst}
 use Rattle.std.specs.Prelude.{Result}
 use Rattle.std.proofs.lemmas.Option.{none-some}
 use Rattle.arena_chunks.specs.Memory.{Memory}
 use Rattle.arena_vec.specs.declared.vec.Vec.{Vec}
 use Rattle.tree_rules.specs.Tokens.{Token, without_places, tokens}
 use Rattle.tree_rules.specs.Trees.{Stmts}
-use Rattle.tree_rules.specs.Grammar.{spell, trees_of, nest, IsProgram}
-use Rattle.tree_rules.specs.Reading.{step, refusal_from, refusal_of, refused_by}
+use Rattle.tree_rules.specs.Grammar.{trees_of, nest, IsProgram}
+use Rattle.tree_rules.specs.Reading.{refusal_from, refusal_of, refused_by}
 use Rattle.tree_rules.specs.Refusals.{TreeOf}
 use Rattle.tree_rules.specs.declared.refused.Refused.{Refused}
 use Rattle.tree_reader.specs.Seen.{IsNext, tokens_at}
@@ -15,7 +16,7 @@ use Rattle.tree_reader.specs.declared.token.Lexeme.{Lexeme}
 use Rattle.tree_reader.proofs.JudgeLemmas.{ended_next}
 use Rattle.tree_nodes.specs.declared.node.Node.{Node}
 use Rattle.arena_tree.specs.StmtsAt.{AreBuilt}
-use Rattle.arena_tree.specs.LineParts.{at_line, LinesStop, AreLines, IsProgramRead}
+use Rattle.arena_tree.specs.LineParts.{LinesStop, AreLines, IsProgramRead}
 use Rattle.tree_nodes.proofs.RowLemmas.{stmts_built}
 use Rattle.arena_tree.proofs.TokenLemmas.{passed_from}
 
@@ -39,16 +40,9 @@ all_read bytes old new list (Ok trees) one h is k =
 -- Statements of which nothing more follows, and where something does: a brace that closes nothing.
 pub ends_all : {bytes : List ℕ} {end : ℕ} {old new : Memory} {list : Vec Node} → AreLines 0 bytes 0 end old new list
     → tokens_at bytes end ≡ [] → IsProgramRead bytes old new list
-ends_all {bytes} k over = record {
-  part = k.part;
-  tokens_are = k.tokens_are ∙ ap (λ ts. spell k.part (without_places ts)) over;
-  passed = k.same ∙ ended_next bytes _ (at_line 0) over;
-  built = k.built;
-}
+ends_all {bytes} k over = grind (arith, nat_tests, ended_next)
 
 pub more_left : {bytes : List ℕ} {end : ℕ} {l : Lexeme} {old new : Memory} {list : Vec Node} → AreLines 0 bytes 0 end old new list
     → LinesStop (tokens_at bytes end) → IsNext bytes end l → refusal_of bytes ≡ None → ⊥
-more_left {bytes} {end} {l} k stop n none =
-    let passed = subst (λ ts. refusal_from (length bytes) (at_line 0) ts ≡ None) n.tokens_are (sym k.same ∙ none) in
-    let q = passed_from (length bytes) (at_line 0) (record { at = l.at; token = n.token }) (tokens_at bytes l.end) passed in
-    none-some q.next (sym (ap (step (at_line 0)) (subst LinesStop n.tokens_are stop)) ∙ q.step_is)
+unfolding refusal_from
+more_left {bytes} {end} {l} k stop n none = grind (arith, nat_tests, passed_from, none-some)

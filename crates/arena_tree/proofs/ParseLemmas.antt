@@ -1,5 +1,6 @@
 -- What calls on whole trees return and take, by what their parts spend.
-use Rattle.std.proofs.Common.{◌≡◌, ℕ, ◌^◌, ◌<◌, ◌≤◌, ◌⊎◌, inl, inr, refl, sym, ◌∙◌, subst, arith, true, Ok, Err, Some, None, List, [], length}
+use Rattle.std.proofs.lemmas.Bool.Decides.{nat_tests}
+use Rattle.std.proofs.Common.{◌≡◌, ℕ, ◌^◌, ◌<◌, ◌≤◌, ◌⊎◌, inl, inr, sym, ◌∙◌, subst, arith, true, Ok, Err, Some, None, List, [], length}
 use Rattle.std.specs.Prelude.{Option, Result}
 use Rattle.std.proofs.lemmas.Bool.{cases_lt}
 use Rattle.arena_rules.specs.State.{allocated_bytes, top_of}
@@ -25,18 +26,9 @@ use Rattle.arena_tree.specs.declared.tree.TreeErr.TheVariants as tree
 use Rattle.std.proofs.lemmas.Option.{none-some}
 use Rattle.arena_tree.specs.Parsing.{Parses, ParsesInOnePass, TakesAtMost, IsShortOf, parse_bytes, error_for, unplaced_by}
 
-pub refused_parses : (bytes : List ℕ) (a : View) (why : Refused) → TreeOf bytes (Err why) → Parses bytes a a (Err (error_for why))
-refused_parses bytes a (Syntax at) h = (h, refl)
-refused_parses bytes a (TooDeep at) h = (h, refl)
-refused_parses bytes a (NumberTooBig at) h = (h, refl)
-
 pub spends_takes : {layouts : Layouts} {few left : ℕ} {old new : View} {error : Option AllocError} (most : ℕ)
     → Spends layouts few 0 left old new error → few ≤ most → TakesAtMost most old new
-spends_takes {layouts} {few} {left} {old} {new} most spends less = record {
-  takes = omega (arith, spends.takes, less);
-  asks = asks_more _ _ old.memory.state new.memory.state old.source new.source (omega (arith, less)) spends.asks;
-  kind = spends.kind;
-}
+spends_takes {layouts} {few} {left} {old} {new} most spends less = grind (arith, nat_tests, asks_more)
 
 starved : (old new : View) → old.memory.state.is_growing ≡ true → IsStarvedBehind old new → IsStarved (2 ^ 62) old new
 starved old new growing (inl refused) = record { growing = growing; cause = inr (inr refused) }
@@ -50,16 +42,7 @@ starved old new growing (inr (inr up)) = record { growing = growing; cause = by 
 
 pub short : {layouts : Layouts} {few : ℕ} {old new : View} (most k : ℕ) → Spends layouts few 0 0 old new (Some (alloc.AllocErr k))
     → few ≤ most → IsShortOf layouts most k old new × Frame old.memory new.memory [] []
-short {layouts} {few} {old} {new} most k spends less =
-    let why = spends.stops.0 in (
-      record {
-        denied = why.denied;
-        counted = why.counted;
-        starved = λ growing. starved old new growing (why.starved growing);
-        full = λ still. record { still = still; short = omega (arith, (why.full still).short, less) };
-      },
-      spends.stops.1,
-    )
+short {layouts} {few} {old} {new} most k spends less = grind (arith, nat_tests, starved)
 
 -- ---- Texts that are judged while they are placed, or before
 

@@ -1,6 +1,7 @@
 -- What it costs to read parts of a text: the children of a sum or a product, one after another, which are appended to
 -- a list, and parts of which one failed.
-use Rattle.std.proofs.Common.{◌≡◌, ℕ, ◌+◌, ◌≤◌, arith, sym, subst, Ok, Err, Some, None, List, []}
+use Rattle.std.proofs.lemmas.Bool.Decides.{nat_tests}
+use Rattle.std.proofs.Common.{◌≡◌, ℕ, ◌+◌, ◌≤◌, arith, Err, Some, None, List, []}
 use Rattle.std.specs.Prelude.{Result, IsErr, IsErrAnd}
 use Rattle.arena_store.specs.declared.block.Block.{Block}
 use Rattle.arena_chunks.proofs.Layers.{frame_reflexive, frame_then}
@@ -8,7 +9,6 @@ use Rattle.arena_chunks.specs.Source.{View}
 use Rattle.arena_chunks.specs.Frame.{Frame}
 use Rattle.arena_items.specs.Denied.{Layouts}
 use Rattle.arena_items.specs.declared.room.AllocError.{AllocError}
-use Rattle.arena_items.specs.declared.room.AllocError.TheVariants as alloc
 use Rattle.arena_tree.specs.Stops.{stop_of, cause, OnText}
 use Rattle.arena_tree.specs.declared.stop.Stop.{Stop}
 use Rattle.arena_tree.specs.declared.stop.Stop.TheVariants.{AllocErr, OutOfMemory, Text}
@@ -34,9 +34,7 @@ stops_more e stopped less = (spends_more stopped.0 (omega (arith, less)) (omega 
 pub arena_stops : {layouts : Layouts} {bytes before after : ℕ} {old new : View} (e : AllocError)
     → Spends layouts bytes before after old new (Some e)
     → Spends layouts bytes before after old new (cause (stop_of e)) × Frame old.memory new.memory [] []
-arena_stops (alloc.AllocErr k) spends = (spends, spends.stops.1)
-arena_stops alloc.OutOfMemory spends = (spends, spends.stops)
-arena_stops alloc.CapacityOverflow spends = absurd spends.stops
+arena_stops e spends = grind (arith, nat_tests)
 
 -- What was read until the text was refused.
 pub text_stops : {some layouts : Layouts} {few left all : ℕ} {old new : View} {blocks : List Block} → Spends some few 0 left old new None
@@ -52,8 +50,7 @@ abbrev pub IsPassedOn : {X : Type 0} → Result X Stop → Stop → Type 0
 IsPassedOn result e = IsErr result × IsErrAnd result (λ f. f ≡ e)
 
 passed_on : {X : Type 0} (P : Result X Stop → Type 0) (result : Result X Stop) (e : Stop) → IsPassedOn result e → P (Err e) → P result
-passed_on P (Ok x) e is h = absurd is.1
-passed_on P (Err f) e is h = subst (λ d. P (Err d)) (sym is.1) h
+passed_on P result e is h = grind (arith, nat_tests)
 
 pub err_up_to : {old new : View} (at : ℕ) (src : List ℕ) (result : Result ℕ Stop) (e : Stop) → IsPassedOn result e
     → Stopped at src old new e → SpendsUpTo at src old new result

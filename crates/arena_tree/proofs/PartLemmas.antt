@@ -1,8 +1,9 @@
 -- Parts of texts, put together.
+use Rattle.std.proofs.lemmas.Bool.Decides.{nat_tests}
 use Rattle.std.proofs.Common.{add-one, ◌≡◌, ◌≢◌, ◌≤◌, ◌+◌, ℕ, zero, suc, Bool, true, false, Some, List, ◌∷◌, ◌++◌, [], length, refl, sym, ap, ◌∙◌, arith}
 use Rattle.arena_chunks.specs.Memory.{Memory}
 use Rattle.arena_vec.specs.declared.vec.Vec.{Vec}
-use Rattle.tree_rules.specs.Tokens.{Token, Star, Minus, LeftParen, RightParen, LeftBrace, RightBrace, Semicolon, without_places}
+use Rattle.tree_rules.specs.Tokens.{Token, Star, Minus, LeftParen, RightParen, LeftBrace, RightBrace, Semicolon}
 use Rattle.tree_rules.specs.Grammar.{Factors, Terms, Added, Taken, spell_factors, spell_terms, factors_tree, terms_tree, term_trees}
 use Rattle.tree_rules.specs.Reading.{State, state, signs_ended, step, is_too_big, refusal_from}
 use Rattle.tree_rules.specs.Refusals.{most_nest}
@@ -26,34 +27,20 @@ use Rattle.arena_tree.proofs.TokenLemmas.{goes_to, too_deep}
 pub reads_token : {X : Type 0} {bytes : List ℕ} {at end : ℕ} {token : Token} (before behind : X → State) → IsTokenAt bytes at token end
     → is_too_big token ≡ false → ((x : X) → length (behind x).opens ≤ most_nest)
     → ((x : X) → step (before x) token ≡ Some (behind x)) → Reads bytes at end (λ more. token ∷ more) before behind
-reads_token before behind t small low steps = record {
-  tokens_are = ap without_places t.tokens_are;
-  same = λ x. goes_to (before x) (behind x) t (steps x) (low x) small;
-  later = t.later;
-  within = t.within;
-}
+unfolding refusal_from
+reads_token before behind t small low steps = grind (arith, nat_tests, goes_to)
 
 -- one part, and another after it
 pub reads_then : {X : Type 0} {bytes : List ℕ} {from mid end : ℕ} {one two : List Token → List Token} {before between behind : X → State}
     → Reads bytes from mid one before between → Reads bytes mid end two between behind
     → Reads bytes from end (λ more. one (two more)) before behind
-reads_then {one = one} a b = record {
-  tokens_are = a.tokens_are ∙ ap one b.tokens_are;
-  same = λ x. a.same x ∙ b.same x;
-  later = omega (arith, a.later, b.later);
-  within = b.within;
-}
+reads_then {one = x0} a b = grind (arith, nat_tests)
 
 -- where some of what is open is known
 pub reads_in : {X Y : Type 0} {bytes : List ℕ} {from end : ℕ} {spelled : List Token → List Token} {before behind : X → State}
     (inside : Y → X) → Reads bytes from end spelled before behind
     → Reads bytes from end spelled (λ y. before (inside y)) (λ y. behind (inside y))
-reads_in inside r = record {
-  tokens_are = r.tokens_are;
-  same = λ y. r.same (inside y);
-  later = r.later;
-  within = r.within;
-}
+reads_in inside r = grind (arith, nat_tests)
 
 -- a part, and then what the text is refused for
 pub refused_then : {X : Type 0} {bytes : List ℕ} {from end : ℕ} {spelled : List Token → List Token} {before behind : X → State}
@@ -77,8 +64,7 @@ braces_many zero = refl
 braces_many (suc n) = ap suc (braces_many n)
 
 pub braces_plain : (n : ℕ) → signs_ended (braces n) ≡ braces n
-braces_plain zero = refl
-braces_plain (suc n) = refl
+braces_plain n = grind (arith, nat_tests)
 
 abbrev pub in_braces : (deep : ℕ) → PlainOpens deep
 in_braces deep = record { opens = braces deep; many = braces_many deep; plain = braces_plain deep }

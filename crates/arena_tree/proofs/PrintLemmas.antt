@@ -1,4 +1,5 @@
 -- Texts of trees: a node's by its kind, and a list's node by node.
+use Rattle.std.proofs.lemmas.Bool.Decides.{nat_tests}
 use Rattle.std.proofs.Common.{◌≡◌, ℕ, suc, ◌+◌, ap, sym, refl, ◌∙◌, Bool, true, false, List, [], ◌∷◌, ◌++◌, drop, append_assoc, append-nil, add-one, arith}
 use Rattle.std.specs.Prelude.{codes, ◌==◌}
 use Rattle.call_rules.specs.Grammar.{number}
@@ -20,8 +21,7 @@ more_factors NoExprs = refl
 more_factors (And e rest) = ap (λ more. codes " * " ++ expr_text e AsFactor ++ more) (more_factors rest)
 
 factors : (es : Exprs) → row_text AsFactor true (expr_row es) ≡ factors_text es
-factors NoExprs = refl
-factors (And e rest) = ap (λ more. expr_text e AsFactor ++ more) (more_factors rest)
+factors es = grind (arith, nat_tests, more_factors)
 
 more_terms : (es : Exprs) → row_text AsTerm false (expr_row es) ≡ more_terms_text es
 more_terms NoExprs = refl
@@ -29,8 +29,7 @@ more_terms (And (Neg e) rest) = ap (λ more. codes " - " ++ expr_text e AsTerm +
 more_terms (And e rest) = ap (λ more. codes " + " ++ expr_text e AsTerm ++ more) (more_terms rest)
 
 terms : (es : Exprs) → row_text AsTerm true (expr_row es) ≡ terms_text es
-terms NoExprs = refl
-terms (And e rest) = ap (λ more. expr_text e AsTerm ++ more) (more_terms rest)
+terms es = grind (arith, nat_tests, more_terms)
 
 pub lines : (first : Bool) (ss : Stmts) → row_text AsExpr first (stmt_row ss) ≡ text ss
 lines first NoStmts = refl
@@ -39,14 +38,10 @@ lines first (Then s rest) = ap (λ more. stmt_text s ++ more) (lines false rest)
 -- ---- A node
 
 sum_in : (s : tree.Stand) (xs : List ℕ) → sum_text s xs ≡ before_kids kind.Sum [] s ++ (xs ++ behind_kids kind.Sum s)
-sum_in AsExpr xs = sym (append-nil xs)
-sum_in AsTerm xs = refl
-sum_in AsFactor xs = refl
+sum_in s xs = grind (arith, nat_tests, append-nil)
 
 product_in : (s : tree.Stand) (xs : List ℕ) → product_text s xs ≡ before_kids kind.Prod [] s ++ (xs ++ behind_kids kind.Prod s)
-product_in AsExpr xs = sym (append-nil xs)
-product_in AsTerm xs = sym (append-nil xs)
-product_in AsFactor xs = refl
+product_in s xs = grind (arith, nat_tests, append-nil)
 
 module _ (m : Memory) (n : Node) (s : tree.Stand) where
   -- a node of this kind, whose children have this text
@@ -77,27 +72,20 @@ module _ (m : Memory) (n : Node) (s : tree.Stand) where
 
   pub inner_kind : (k : Kind) (inner : List ℕ) → (k ≡ kind.Num → ⊥) → (k ≡ kind.Name → ⊥)
       → of_kind k inner ≡ before_kids k (text_bytes m n.text) s ++ (inner ++ behind_kids k s)
-  inner_kind kind.Num inner num name = absurd (num refl)
-  inner_kind kind.Name inner num name = absurd (name refl)
-  inner_kind k inner num name = refl
+  inner_kind k inner num name = grind (arith, nat_tests)
 
 -- ---- A node of a list
 
 pub taken_kids : (k : Kind) (s : tree.Stand) (first : Bool) → is_taken k s first ≡ true → has_kids k ≡ true
-taken_kids kind.Neg s first is = refl
-taken_kids k s first is = cc
+taken_kids k s first is = grind (arith, nat_tests)
 
 pub taken_piece : (s : tree.Stand) (first : Bool) (t : Subtree) (m : Memory) (n : Node) → SubtreeAt t m n → is_taken n.kind s first ≡ true
     → piece s first t ≡ codes " - " ++ row_text s true (kids_it t)
-taken_piece AsTerm false (OfExpr (Neg e)) m n at is = simp append-nil
-taken_piece s first (OfExpr (Num k)) m n at is = absurd (true_false (sym is ∙ ap (λ k. is_taken k s first) at.0))
-taken_piece s first (OfStmt (Let name e)) m n at is = absurd (true_false (sym is ∙ ap (λ k. is_taken k s first) at.0))
-taken_piece s first t m n at is = absurd (true_false (sym is ∙ ap (λ k. is_taken k s first) at.0))
+taken_piece s first t m n at is = grind (arith, nat_tests, append-nil, true_false)
 
 pub plain_piece : (s : tree.Stand) (first : Bool) (t : Subtree) (m : Memory) (n : Node) → SubtreeAt t m n → is_taken n.kind s first ≡ false
     → piece s first t ≡ joint s first ++ tree_text t s
-plain_piece AsTerm false (OfExpr (Neg e)) m n at is = absurd (true_false (sym (ap (λ k. is_taken k AsTerm false) at.0) ∙ is))
-plain_piece s first t m n at is = refl
+plain_piece s first t m n at is = grind (arith, nat_tests, true_false)
 
 -- the row goes on
 pub row_more : (s : tree.Stand) (i : ℕ) (t : Subtree) (ts : List Subtree) (one two all : List ℕ) → drop i ts ≡ t ∷ drop (suc i) ts

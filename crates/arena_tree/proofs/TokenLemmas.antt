@@ -30,9 +30,7 @@ next_token {l = l} n = record { place = l.at; tokens_are = n.tokens_are; later =
 -- a token of a kind, by what is seen
 pub token_seen : {bytes : List ℕ} {at : ℕ} {l : Lexeme} {s : Seen} (token : Token) (n : IsNext bytes at l) → l.seen ≡ s
     → (IsSeen s (slice_range bytes l.at l.end) n.token → n.token ≡ token) → IsTokenAt bytes at token l.end
-token_seen {bytes} {at} {l} token n is same =
-    subst (λ t. IsTokenAt bytes at t l.end) (same (subst (λ (s : Seen). IsSeen s (slice_range bytes l.at l.end) n.token) is n.seen))
-    (next_token n)
+token_seen {bytes} {at} {l} token n is same = grind (arith, nat_tests, next_token)
 
 -- A token that is accepted may come there, and the text isn't refused after it.
 pub record Passed (size : ℕ) (s : State) (token : Token) (ts : List Placed) : Type 0 where
@@ -91,13 +89,10 @@ deep_refused size s next t ts is deep =
 module _ {bytes : List ℕ} {at end : ℕ} {token : Token} (s next : State) (t : IsTokenAt bytes at token end) (is : step s token ≡ Some next) where
   pub goes_to : length next.opens ≤ most_nest → is_too_big token ≡ false
       → refusal_from (length bytes) s (tokens_at bytes at) ≡ refusal_from (length bytes) next (tokens_at bytes end)
-  goes_to low small = ap (refusal_from (length bytes) s) t.tokens_are
-      ∙ accepted (length bytes) s next (record { at = t.place; token = token }) (tokens_at bytes end) is low small
+  goes_to low small = grind (arith, nat_tests, accepted)
 
   pub too_deep : most_nest < length next.opens → IsPassed bytes s at → ⊥
-  too_deep deep p =
-      none-some (TooDeep t.place) (sym p ∙ ap (refusal_from (length bytes) s) t.tokens_are
-      ∙ deep_refused (length bytes) s next (record { at = t.place; token = token }) (tokens_at bytes end) is deep)
+  too_deep deep p = grind (arith, nat_tests, none-some, deep_refused)
 
 -- ---- What is seen
 
@@ -105,21 +100,17 @@ module _ {bytes : List ℕ} {at end : ℕ} {token : Token} (s next : State) (t :
 passed_next : {bytes : List ℕ} {at : ℕ} {l : Lexeme} → IsNext bytes at l → (s : State) → IsPassed bytes s at
     → Passed (length bytes) s (like l.seen) (tokens_at bytes l.end)
 unfolding refusal_from
-passed_next {bytes} {at} {l} n s p =
-    let next : Placed = record { at = l.at; token = like l.seen } in
-    passed_from (length bytes) s next (tokens_at bytes l.end) (sym (judged_next bytes at l s (judged s next) n refl) ∙ p)
+passed_next {bytes} {at} {l} n s p = grind (arith, nat_tests, judged_next)
 
 -- what holds where nothing is returned
 pub if_none : {X : Type 0} (P : Type 0) (r : Option X) → P → IfNone r P
-if_none P None holds = holds
-if_none P (Some x) holds = tt
+if_none P r holds = grind (arith, nat_tests)
 
 -- where a text may not end, and no token comes, it is refused
 pub none_at : {X Y : Type 0} (bytes : List ℕ) (at : ℕ) (before : X → State)
     → ((x : X) → ended (length bytes) (before x) ≡ Some (Syntax (length bytes))) → tokens_at bytes at ≡ [] → (r : Option Y)
     → IfNone r (IsRefusedAt before bytes at)
-none_at bytes at before ends none r =
-    if_none (IsRefusedAt before bytes at) r (λ x p. none-some _ (sym p ∙ ended_next bytes at (before x) none ∙ ends x))
+none_at bytes at before ends none r = grind (arith, nat_tests, if_none, none-some, ended_next)
 
 module _ {bytes : List ℕ} {at : ℕ} {l : Lexeme} (n : IsNext bytes at l) where
   pub only_name : (opens : List Open) → IsPassed bytes (state AtName opens) at → (l.seen ≡ seen.Word → ⊥) → ⊥
@@ -198,12 +189,7 @@ module _ {bytes : List ℕ} {at : ℕ} {l : Lexeme} (n : IsNext bytes at l) wher
 -- a sign, at a byte that begins neither a number nor a name
 pub sign_token : {bytes : List ℕ} {at here : ℕ} → IsBegin bytes at here → is_digit (slice_index bytes here) ≡ false
     → is_name_start (slice_index bytes here) ≡ false → IsTokenAt bytes at (sign (slice_index bytes here)) (here + 1)
-sign_token {bytes} {at} {here} begin digit name = record {
-  place = here;
-  tokens_are = first_sign bytes at here begin digit name;
-  later = omega (arith, begin.behind);
-  within = omega (arith, begin.within);
-}
+sign_token {bytes} {at} {here} begin digit name = grind (arith, nat_tests, first_sign)
 
 -- no other sign than a minus and a parenthesis
 no_factor : (opens : List Open) (b : ℕ) → (b == 45) ≡ false → (b == 40) ≡ false → step (state AtFactor opens) (sign b) ≡ None

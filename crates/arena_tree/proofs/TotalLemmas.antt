@@ -1,5 +1,6 @@
 -- Totals of nodes that are numbers, from the last one on.
-use Rattle.std.proofs.Common.{◌≡◌, ℕ, suc, zero, ◌≤◌, ap, refl, Bool, true, false, Option, Some, None, List, [], ◌∷◌, length, drop, add-one}
+use Rattle.std.proofs.lemmas.Bool.Decides.{nat_tests}
+use Rattle.std.proofs.Common.{arith, ◌≡◌, ℕ, suc, zero, ◌≤◌, ap, refl, Bool, true, false, Option, Some, None, List, [], ◌∷◌, length, drop, add-one}
 use Rattle.std.specs.Prelude.{slice_get}
 use Rattle.std.proofs.lemmas.List.{drop_all}
 use Rattle.arena_items.proofs.Layers.{drop_item}
@@ -30,8 +31,7 @@ tail_more product ns i j k total next is get named tail step =
     front false (Some ks) tail step = step (total_of false ks) tail
 
 pub tail_whole : (product : Bool) (o : Option (List ℕ)) (found : Option ℕ) → IsTail product o found → found ≡ total_in (total_of product) o
-tail_whole product None found tail = absurd tail
-tail_whole product (Some ns) found tail = tail
+tail_whole product o found tail = grind (arith, nat_tests)
 
 -- a node that is no number
 pub no_total : (product : Bool) (ns : List Node) (i : ℕ) (k : Node) → slice_get ns i ≡ Some k → (k.kind ≡ kind.Num → ⊥)

@@ -1,4 +1,5 @@
-use Rattle.std.proofs.Common.{refl}
+use Rattle.std.proofs.lemmas.Bool.Decides.{nat_tests}
+use Rattle.std.proofs.Common.{arith, refl}
 use Rattle.tree_rules.specs.Reading.{state}
 use Rattle.tree_rules.specs.declared.machine.Mode.TheVariants.{AtEquals}
 use Rattle.arena_tree.proofs.TokenLemmas.{only_equals, none_at}
@@ -8,7 +9,4 @@ pub returns-in_err-l-clause-none : goal.returns-in_err-l-clause-none
 returns-in_err-l-clause-none c = none_at _ _ (state AtEquals) (λ x. refl) c.in_err-l.ensures.none _
 
 pub returns-in_default : goal.returns-in_default
-returns-in_default c = record {
-  some = tt;
-  none = λ opens p. only_equals c.in_ok-l.ensures.some opens p c.in_default.not-Equals;
-}
+returns-in_default c = grind (arith, nat_tests, only_equals)

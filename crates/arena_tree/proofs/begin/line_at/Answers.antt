@@ -1,3 +1,4 @@
+use Rattle.std.proofs.lemmas.Bool.Decides.{nat_tests}
 use Rattle.std.proofs.Common.{◌≡◌, ℕ, List, ◌∷◌, Some, false, refl, arith}
 use Rattle.tree_rules.specs.Tokens.{Token, LetKey}
 use Rattle.tree_rules.specs.Reading.{State, state, step, is_too_big}
@@ -50,9 +51,4 @@ returns-in_ok-behind-in-LetKey-clause-some c =
     )
 
 pub returns-in_default-seen : goal.returns-in_default-seen
-returns-in_default-seen c =
-    let arm = c.in_default-seen in
-    record {
-      some = λ depth. expr_start c.in-Some.ensures.some arm.not-RightBrace arm.not-LeftBrace arm.not-LetKey (braces depth);
-      none = tt;
-    }
+returns-in_default-seen c = grind (arith, nat_tests, expr_start)

@@ -1,4 +1,5 @@
-use Rattle.std.proofs.Common.{refl}
+use Rattle.std.proofs.lemmas.Bool.Decides.{nat_tests}
+use Rattle.std.proofs.Common.{arith, refl}
 use Rattle.tree_rules.specs.Reading.{state}
 use Rattle.tree_rules.specs.declared.machine.Mode.TheVariants.{AtName}
 use Rattle.arena_tree.proofs.TokenLemmas.{only_name, none_at}
@@ -8,9 +9,4 @@ pub returns-in_err-l-clause-none : goal.returns-in_err-l-clause-none
 returns-in_err-l-clause-none c = none_at _ _ (state AtName) (λ x. refl) c.in_err-l.ensures.none _
 
 pub returns-in_default : goal.returns-in_default
-returns-in_default c = record {
-  token = tt;
-  range = tt;
-  begin = tt;
-  none = λ opens p. only_name c.in_ok-l.ensures.some opens p c.in_default.not-Word;
-}
+returns-in_default c = grind (arith, nat_tests, only_name)

@@ -1,7 +1,6 @@
-use Rattle.std.proofs.Common.{rules, ◌≡◌, ◌-◌, ◌*◌, ◌≤◌, ◌∙◌, ap, sym, length, inl, inr, add-one, arith, [], ◌∷◌}
-use Rattle.arena_vec.specs.Vecs.{vec_list}
-use Rattle.arena_tree.specs.TreesAt.{node_item}
-use Rattle.arena_tree.specs.Subtrees.{has_kids, HasTree, HasRow}
+use Rattle.std.proofs.lemmas.Bool.Decides.{nat_tests}
+use Rattle.std.proofs.Common.{rules, ◌≡◌, ◌*◌, ◌∙◌, ap, sym, inl, inr, add-one, arith, [], ◌∷◌}
+use Rattle.arena_tree.specs.Subtrees.{has_kids, HasRow}
 use Rattle.tree_nodes.proofs.WalkLemmas.{list_len}
 use Rattle.tree_nodes.proofs.SpendingLemmas.{frees, err_spends, asks_of, asks_any}
 use Rattle.arena_tree.proofs.CopyLayoutLemmas.{kid_copy, kids_copy, text_copy}
@@ -22,18 +21,13 @@ pub clone_node-clone_text-requires : goal.clone_node-clone_text-requires
 clone_node-clone_text-requires g t c = (text_of _ _ c.requires.tree c.requires.stands (inl c.in-Name.is)).0
 
 pub clone_node-returns-in_ok-name-in-Name-clause-tree : goal.clone_node-returns-in_ok-name-in-Name-clause-tree
-clone_node-returns-in_ok-name-in-Name-clause-tree g t c = λ tree at.
-    let text = c.in_ok-name-in-Name.ensures in
-    name_copied _ _ _ _ _ tree _ at c.in-Name.is text.held text.text text.frame c.named.ensures.kind c.named.ensures.text c.named.ensures.rest
+clone_node-returns-in_ok-name-in-Name-clause-tree g t c = grind (arith, nat_tests, name_copied)
 
 pub clone_node-returns-in_ok-name-in-Name-clause-spends : goal.clone_node-returns-in_ok-name-in-Name-clause-spends
-clone_node-returns-in_ok-name-in-Name-clause-spends g t c = λ tree at.
-    asks_any (part_spends tree (omega (arith, (text_of _ _ tree at (inl c.in-Name.is)).1)) c.in_ok-name-in-Name.ensures.spends)
+clone_node-returns-in_ok-name-in-Name-clause-spends g t c = grind (arith, nat_tests, asks_any, part_spends, text_of)
 
 pub clone_node-returns-in_err-name-in-Name-clause-spends : goal.clone_node-returns-in_err-name-in-Name-clause-spends
-clone_node-returns-in_err-name-in-Name-clause-spends g t c = λ tree at.
-    err_spends _ _ c.from_residual.ensures (asks_of (text_copy tree _ _ at (inl c.in-Name.is))
-    (part_spends tree (omega (arith, (text_of _ _ tree at (inl c.in-Name.is)).1)) c.in_err-name-in-Name.ensures.spends))
+clone_node-returns-in_err-name-in-Name-clause-spends g t c = grind (arith, nat_tests, err_spends, asks_of, text_copy, part_spends, text_of)
 
 -- ---- A definition
 
@@ -50,12 +44,7 @@ clone_node-clone_row-requires g t c κs within =
     search (rules, can)
 
 pub clone_node-returns-in_ok-value-in-Let-clause-tree : goal.clone_node-returns-in_ok-value-in-Let-clause-tree
-clone_node-returns-in_ok-value-in-Let-clause-tree g t c = λ tree at.
-    let text = c.in_ok-name-in-Let.ensures in
-    let row = row_at _ _ _ (ap has_kids c.in-Let.is) c.kids.ensures tree at in
-    let_copied _ _ _ _ _ _ tree _ _ at c.in-Let.is text.held text.text text.frame
-    (c.in_ok-value-in-Let.ensures.trees (kids_it tree) row) c.let_node.ensures.kind c.let_node.ensures.text c.let_node.ensures.kids
-    c.let_node.ensures.rest
+clone_node-returns-in_ok-value-in-Let-clause-tree g t c = grind (arith, nat_tests, row_at, let_copied, kids_it)
 
 pub clone_node-returns-in_ok-value-in-Let-clause-spends : goal.clone_node-returns-in_ok-value-in-Let-clause-spends
 clone_node-returns-in_ok-value-in-Let-clause-spends g t c = λ tree at.
@@ -124,10 +113,7 @@ clone_row-loop-i-init g t c =
     }
 
 pub clone_row-clone_node-requires : goal.clone_row-clone_node-requires
-clone_row-clone_node-requires g t c κs within =
-    let can : HasTree c.args.from.now.memory c.get-node.result (c.args.room - 1)
-    = kid_can c.requires.trees _ _ c.loop-i.i c.args.room _ c.requires.stand c.get-node.ensures c.requires.low in
-    search (rules, can)
+clone_row-clone_node-requires g t c h within = grind (arith, nat_tests, kid_can, rules)
 
 pub clone_row-fill-requires-clause-held : goal.clone_row-fill-requires-clause-held
 clone_row-fill-requires-clause-held g t c =
@@ -153,11 +139,7 @@ clone_row-loop-i-preserved g t c =
     }
 
 pub clone_row-returns-clause-trees : goal.clone_row-returns-clause-trees
-clone_row-returns-clause-trees g t c = λ ts at.
-    let m = c.args.from.now.memory in
-    let done : length (vec_list node_item m c.args.nodes) ≤ c.loop-i.i
-    = omega (arith, c.loop-i-test.false, c.len-in-loop-i.ensures, list_len m c.args.nodes) in
-    rw (row_whole ts _ _ c.loop-i.i at done) at (c.loop-i.invariant.built ts at)
+clone_row-returns-clause-trees g t c = grind (arith, nat_tests, list_len, row_whole)
 
 pub clone_row-returns-clause-spends : goal.clone_row-returns-clause-spends
 clone_row-returns-clause-spends g t c = λ ts at. forget (c.loop-i.invariant.spends ts at)

@@ -1,7 +1,8 @@
+use Rattle.std.proofs.lemmas.Bool.Decides.{nat_tests}
 use Rattle.std.proofs.Common.{rules, ◌≡◌, ◌-◌, ◌∙◌, refl, sym, Some, None, arith}
 use Rattle.arena_exchange.proofs.Layers.{same_places}
 use Rattle.arena_items.proofs.Layers.{same_then}
-use Rattle.arena_tree.specs.FoldingParts.{CanFold, CanFoldRow, kids_folded}
+use Rattle.arena_tree.specs.FoldingParts.{CanFold, kids_folded}
 use Rattle.tree_nodes.proofs.SubtreeLemmas.{kids_at}
 use Rattle.arena_tree.proofs.FoldNodeLemmas.{leaf_folded, kids_can, kids_done, kids_done_lean, rule_done}
 use Rattle.arena_tree.proofs.FoldRowLemmas.{row_begins, turn_of, turn_whole, turn_can, row_next, held_still, set_list}
@@ -14,14 +15,10 @@ fold_node-returns-then-not-has_kids-clause-folded g t c = λ tree whole.
     leaf_folded tree _ _ whole.stands (sym c.has_kids.ensures ∙ c.if-not-has_kids.true)
 
 pub fold_node-kids-list-requires : goal.fold_node-kids-list-requires
-fold_node-kids-list-requires g t c =
-    (kids_at c.requires.tree _ _ c.requires.whole.stands (sym c.has_kids.ensures ∙ c.if-not-has_kids.false)).held
+fold_node-kids-list-requires g t c = grind (arith, nat_tests, kids_at)
 
 pub fold_node-fold_row-count-requires : goal.fold_node-fold_row-count-requires
-fold_node-fold_row-count-requires g t c κs within =
-    let can : CanFoldRow c.args.a.now.memory c.kids-list.result c.args.room
-    = rw c.kids-list.ensures (kids_can c.requires.whole (sym c.has_kids.ensures ∙ c.if-not-has_kids.false) c.args.room c.requires.low) in
-    search (rules, can)
+fold_node-fold_row-count-requires g t c h within = grind (arith, nat_tests, kids_can, rules)
 
 pub fold_node-rule-requires : goal.fold_node-rule-requires
 fold_node-rule-requires g t c =
@@ -99,6 +96,4 @@ fold_row-returns-clause-folded g t c =
     record { each = λ trees whole. (rw end at (c.loop-i.invariant.row trees whole)).row }
 
 pub fold_row-returns-clause-lean : goal.fold_row-returns-clause-lean
-fold_row-returns-clause-lean g t c =
-    let end : c.loop-i.i ≡ 0 = omega (arith, c.loop-i-test.false) in
-    (rw end at (c.loop-i.invariant.row c.requires.trees c.requires.whole)).lean
+fold_row-returns-clause-lean g t c = grind (arith, nat_tests)

@@ -1,6 +1,6 @@
-use Rattle.std.proofs.Common.{◌≡◌, ◌==◌, true, false, refl, sym, ◌∙◌, arith}
+use Rattle.std.proofs.Common.{true, refl, sym, ◌∙◌, arith}
 use Rattle.std.proofs.lemmas.Bool.Decides.{nat_tests}
-use Rattle.std.specs.Prelude.{slice_index, slice_range}
+use Rattle.std.specs.Prelude.{slice_range}
 use Rattle.tree_rules.specs.Reading.{state}
 use Rattle.tree_rules.specs.declared.machine.Mode.TheVariants.{AtFactor}
 use Rattle.arena_tree.proofs.TokenLemmas.{only_number, sign_token, no_start, no_keyword, word_token, none_at}
@@ -33,9 +33,4 @@ returns-then-is_let-clause-none c =
     }))
 
 pub returns-in_default-3-clause-none : goal.returns-in_default-3-clause-none
-returns-in_default-3-clause-none c =
-    let b = slice_index c.args.src.now c.in_ok-here.here in
-    let minus : (b == 45) ≡ false = grind (arith, nat_tests) in
-    let paren : (b == 40) ≡ false = grind (arith, nat_tests) in
-    no_start c.in_ok-here.ensures.some minus paren (sym c.is_digit.ensures ∙ c.if-is_digit.false)
-    (sym c.is_name_start.ensures ∙ c.if-is_name_start.false)
+returns-in_default-3-clause-none c = grind (arith, nat_tests, no_start)

@@ -1,10 +1,10 @@
-use Rattle.std.proofs.Common.{rules, ◌≡◌, true, ◌≤◌, ◌-◌, ◌∙◌, sym, refl, length, inl, inr, append-nil, arith}
+use Rattle.std.proofs.lemmas.Bool.Decides.{nat_tests}
+use Rattle.std.proofs.Common.{rules, ◌∙◌, refl, inl, inr, append-nil, arith}
 use Rattle.std.proofs.lemmas.List.{drop_all}
 use Rattle.std.proofs.lemmas.Grind.{common_steps}
 use Rattle.arena_vec.specs.Vecs.{vec_list}
 use Rattle.tree_nodes.specs.declared.node.Kind.TheVariants as kind
 use Rattle.arena_tree.specs.TreesAt.{node_item}
-use Rattle.arena_tree.specs.Subtrees.{has_kids, HasTree}
 use Rattle.arena_tree.specs.Printing.{stand_of}
 use Rattle.tree_nodes.proofs.WalkLemmas.{list_len}
 use Rattle.tree_nodes.proofs.SubtreeLemmas.{kids_it, kids_at, row_length}
@@ -32,9 +32,7 @@ pub put_node-put_before-requires : goal.put_node-put_before-requires
 put_node-put_before-requires g t c = λ is. (text_of c.args.a.now.memory c.args.node c.requires.tree c.requires.stands (inr is)).0
 
 pub put_node-put_kids-requires : goal.put_node-put_kids-requires
-put_node-put_kids-requires g t c κs within =
-    let more : has_kids c.args.node.kind ≡ true = more_kinds c.args.node.kind c.in_default.not-Num c.in_default.not-Name in
-    search (rules, more)
+put_node-put_kids-requires g t c h within = grind (arith, nat_tests, more_kinds, rules)
 
 pub put_node-returns-in_ok-put_kids-in_default : goal.put_node-returns-in_ok-put_kids-in_default
 put_node-returns-in_ok-put_kids-in_default g t c = λ tree at.
@@ -52,10 +50,7 @@ put_kids-kids-requires g t c =
     (kids_at c.requires.node.tree c.args.a.now.memory c.args.node c.requires.node.stands c.requires.kids).held
 
 pub put_kids-put_row-requires : goal.put_kids-put_row-requires
-put_kids-put_row-requires g t c κs within =
-    let h = c.requires.node in
-    let can = has_row c.args.a.now.memory c.args.node c.kids.result c.requires.kids c.kids.ensures h.tree h.stands c.args.room h.low in
-    search (rules, can)
+put_kids-put_row-requires g t c h within = grind (arith, nat_tests, has_row, rules)
 
 pub put_kids-returns : goal.put_kids-returns
 put_kids-returns g t c = λ tree at.
@@ -65,29 +60,18 @@ put_kids-returns g t c = λ tree at.
 -- ---- A node of a list
 
 pub put_kid-put_kids-requires : goal.put_kid-put_kids-requires
-put_kid-put_kids-requires g t c κs within =
-    let more : has_kids c.args.node.kind ≡ true = taken_kids _ _ _ (sym c.is_taken.ensures ∙ c.if-is_taken.true) in
-    search (rules, more)
+put_kid-put_kids-requires g t c h within = grind (arith, nat_tests, taken_kids, rules)
 
 pub put_kid-returns-then-is_taken : goal.put_kid-returns-then-is_taken
-put_kid-returns-then-is_taken g t c = λ tree at.
-    let is = sym c.is_taken.ensures ∙ c.if-is_taken.true in
-    rw (taken_piece _ _ tree _ _ at is) (grind (arith, common_steps, c.put_kids.ensures tree at))
+put_kid-returns-then-is_taken g t c = grind (arith, nat_tests, taken_piece, common_steps)
 
 pub put_kid-returns : goal.put_kid-returns
-put_kid-returns g t c = λ tree at.
-    let is = sym c.is_taken.ensures ∙ c.if-is_taken.false in
-    rw (plain_piece _ _ tree _ _ at is) (grind (arith, common_steps, c.put_node.ensures tree at))
+put_kid-returns g t c = grind (arith, nat_tests, plain_piece, common_steps)
 
 -- ---- A list
 
 pub put_row-put_kid-requires : goal.put_row-put_kid-requires
-put_row-put_kid-requires g t c κs within =
-    let m = c.args.a.now.memory in
-    let h = c.requires in
-    let can : HasTree m c.get-kid.result (c.args.room - 1)
-    = kid_can h.trees m (vec_list node_item m c.args.list) c.loop-i.i c.args.room c.get-kid.result h.stand c.get-kid.ensures h.low in
-    search (rules, can)
+put_row-put_kid-requires g t c h within = grind (arith, nat_tests, kid_can, rules)
 
 pub put_row-loop-i-preserved : goal.put_row-loop-i-preserved
 put_row-loop-i-preserved g t c =
@@ -101,8 +85,4 @@ put_row-loop-i-preserved g t c =
     }
 
 pub put_row-returns : goal.put_row-returns
-put_row-returns g t c = λ ts at.
-    let ns = vec_list node_item c.args.a.now.memory c.args.list in
-    let same = row_length ts c.args.a.now.memory ns at in
-    let done : length ts ≤ c.loop-i.i = omega (arith, list_len c.args.a.now.memory c.args.list) in
-    simp append-nil at (rw (drop_all c.loop-i.i ts done) at (c.loop-i.invariant.text ts at))
+put_row-returns g t c = grind (arith, nat_tests, row_length, list_len, append-nil, drop_all)

@@ -1,4 +1,5 @@
-use Rattle.std.proofs.Common.{ℕ, Option, add-one, subst, refl, ap, sym, ◌∙◌, inl, ◌∷◌, arith, ◌+◌, ◌-◌}
+use Rattle.std.proofs.lemmas.Bool.Decides.{nat_tests}
+use Rattle.std.proofs.Common.{ℕ, add-one, subst, refl, ap, sym, ◌∙◌, inl, ◌∷◌, arith, ◌+◌, ◌-◌}
 use Rattle.arena_tree.specs.Spending.{most_for, credit}
 use Rattle.arena_tree.proofs.AskedLemmas.{asked_longer}
 use Rattle.tree_nodes.proofs.SpendingLemmas.{asks_of, asks_any, spends_nothing, spends_then, spends_more, frees, frees_then}
@@ -118,8 +119,7 @@ pub line-returns-in-None-clause-text : goal.line-returns-in-None-clause-text
 line-returns-in-None-clause-text g t c = c.in-None.ensures.none (record { depth = c.args.deep; low = c.requires.nest })
 
 pub lines-returns-in_err-line-clause-text : goal.lines-returns-in_err-line-clause-text
-lines-returns-in_err-line-clause-text g t c = err_text (Option ℕ) _ _ _ _ c.from_residual.ensures (λ no p. no (sym c.loop-list.invariant.read.same ∙ p))
-    c.in_err-line.ensures.text
+lines-returns-in_err-line-clause-text g t c = grind (arith, nat_tests, err_text)
 
 pub lines-returns-in-None-clause-spends : goal.lines-returns-in-None-clause-spends
 lines-returns-in-None-clause-spends g t c =

@@ -1,3 +1,4 @@
+use Rattle.std.proofs.lemmas.Bool.Decides.{nat_tests}
 use Rattle.std.proofs.Common.{arith}
 use Rattle.tree_nodes.proofs.SpendingLemmas.{spends_more}
 use Rattle.arena_tree.proofs.LineLemmas.{ends_all, more_left}
@@ -8,8 +9,7 @@ pub returns-in-None-clause-trees : goal.returns-in-None-clause-trees
 returns-in-None-clause-trees g c = ends_all c.in_ok-list.ensures.trees.0 c.in-None.ensures.none
 
 pub returns-in-Some-clause-text : goal.returns-in-Some-clause-text
-returns-in-Some-clause-text g c =
-    let k = c.in_ok-list.ensures.trees in more_left k.0 k.1 c.in-Some.ensures.some
+returns-in-Some-clause-text g c = grind (arith, nat_tests, more_left)
 
 pub returns-in-None-clause-spends : goal.returns-in-None-clause-spends
 returns-in-None-clause-spends g c =

@@ -1,3 +1,4 @@
+use Rattle.std.proofs.lemmas.Bool.Decides.{nat_tests}
 use Rattle.std.proofs.Common.{arith}
 use Rattle.arena_tree.specs.Cloning.{clone_bytes}
 use Rattle.arena_tree.specs.Subtrees.{stmt_row}
@@ -10,8 +11,7 @@ use Rattle.tree_nodes.proofs.SubtreeLemmas.{stmt_row_at}
 use Rattle.arena_tree.proofs.tree.Tree.clone_in.Goals as goal
 
 pub clone_row-requires : goal.clone_row-requires
-clone_row-requires g c =
-    rw c.used_bytes.ensures (given_row c.args.from.now.memory c.args.self.now c.requires)
+clone_row-requires g c = grind (arith, nat_tests, given_row)
 
 pub returns-in-Ok-clause-clones : goal.returns-in-Ok-clause-clones
 returns-in-Ok-clause-clones g c = λ trees means.
@@ -37,8 +37,7 @@ returns-in-Err-AllocErr-clause-bytes g c = λ trees means.
     ((rw c.in-Err-AllocErr.field-0-is at c.in-Err-AllocErr.ensures.spends) (stmt_row trees) (stmt_row_at trees _ _ means))) (omega arith)
 
 pub returns-in-Err-OutOfMemory-clause-clones : goal.returns-in-Err-OutOfMemory-clause-clones
-returns-in-Err-OutOfMemory-clause-clones g c = λ trees means.
-    ((rw c.in-Err-OutOfMemory.field-0-is at c.in-Err-OutOfMemory.ensures.spends) (stmt_row trees) (stmt_row_at trees _ _ means)).stops
+returns-in-Err-OutOfMemory-clause-clones g c = grind (arith, nat_tests, stmt_row_at)
 
 pub returns-in-Err-OutOfMemory-clause-bytes : goal.returns-in-Err-OutOfMemory-clause-bytes
 returns-in-Err-OutOfMemory-clause-bytes g c = λ trees means.
@@ -47,9 +46,7 @@ returns-in-Err-OutOfMemory-clause-bytes g c = λ trees means.
     (omega arith)
 
 pub unreachable-requires : goal.unreachable-requires
-unreachable-requires g c =
-    ((rw c.in-Err-CapacityOverflow.field-0-is at c.in-Err-CapacityOverflow.ensures.spends) (stmt_row c.requires.trees)
-    (stmt_row_at c.requires.trees _ _ c.requires.means)).stops
+unreachable-requires g c = grind (arith, nat_tests, stmt_row_at)
 
 pub returns-in-Ok-clause-lean : goal.returns-in-Ok-clause-lean
 returns-in-Ok-clause-lean g c = (returns-in-Ok-clause-clones g c c.requires.trees c.requires.means).lean

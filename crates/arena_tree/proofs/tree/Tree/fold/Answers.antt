@@ -1,9 +1,10 @@
+use Rattle.std.proofs.lemmas.Bool.Decides.{nat_tests}
+use Rattle.std.proofs.Common.{arith}
 use Rattle.arena_tree.proofs.FoldTreeLemmas.{can_fold, tree_folds, tree_stands}
 use Rattle.arena_tree.proofs.tree.Tree.fold.Goals as goal
 
 pub fold_row-requires : goal.fold_row-requires
-fold_row-requires g c =
-    rw c.used_bytes.ensures (can_fold c.args.a.now.memory c.args.self.now c.requires)
+fold_row-requires g c = grind (arith, nat_tests, can_fold)
 
 pub returns-clause-folded : goal.returns-clause-folded
 returns-clause-folded g c = λ trees means. tree_folds trees c.requires means c.fold_row.ensures.folded c.fold_row.ensures.places
