@@ -1,6 +1,6 @@
 -- The lemmas that a layer above cites: which arenas are of a kind, what the events of a pool do, what a seat knows, and
 -- what follows from the rules of claims and of two owners.
-pub use Rattle.arena_pool.proofs.KindLemmas.{reset_of_kind, reset_is_unused, none_readable}
+pub use Rattle.arena_pool.proofs.KindLemmas.{reset_of_kind, reset_is_unused}
 pub use Rattle.arena_pool.proofs.KeptLemmas.{
   frame_of_kind,
   placed_of_kind,
@@ -11,10 +11,8 @@ pub use Rattle.arena_pool.proofs.KeptLemmas.{
   box_of_kind,
   slice_of_kind,
 }
-pub use Rattle.arena_pool.proofs.PoolLemmas.{got_is_lent, got_is_pool, lent_is_pooled, put_is_pool, given_up_is_pool}
-pub use Rattle.arena_pool.proofs.PoolLemmas.{put_is_kept, put_is_gone, put_unlimited, put_of_fixed, put_is_counted}
-pub use Rattle.arena_pool.proofs.PoolLemmas.{answers_stored, answers_empty, answers_limit, answers_at_once, answers_waiting, put_is_newest}
-pub use Rattle.arena_pool.proofs.ClaimLemmas.{times-append, times-same, times-other, knows_claimed, knows_taken, is_taken}
+pub use Rattle.arena_pool.proofs.PoolLemmas.{got_is_lent, put_is_pool, put_unlimited, put_is_counted}
+pub use Rattle.arena_pool.proofs.ClaimLemmas.{times-append, times-same, knows_claimed, knows_taken, is_taken}
 pub use Rattle.arena_pool.proofs.ClaimLemmas.{counts_views, one_claims, once_each, happened}
 pub use Rattle.arena_pool.proofs.OwnerLemmas.{once, two_share}
 
@@ -24,9 +22,5 @@ pub ruleset kind_laws = (placed_of_kind, resized_of_kind, returned_of_kind, wrot
 -- what the events of a book leave
 pub ruleset event_laws = (got_is_lent, put_is_counted, put_unlimited)
 
--- what a get and a put come to, and the rule of claims
-pub ruleset answer_laws = (answers_stored, answers_empty, answers_limit, answers_at_once, answers_waiting)
-
-pub ruleset put_laws = (put_is_kept, put_is_gone, put_unlimited, put_of_fixed, put_is_counted)
-
+-- the rule of claims
 pub ruleset claim_laws = (counts_views, one_claims, once_each, happened)

@@ -45,7 +45,6 @@ pub fn events()
 /// When a get is refused: if none is stored, by a fixed pool with `PoolEmpty`, and by a standard pool that has made
 /// 2^64 - 1 with `Limit`. Otherwise it lends an arena, or is out of memory for a new one. Under the lock it waits
 /// exactly if it would be refused in one of these two ways, or if `MOST_LENT` arenas are lent.
-#[tactic(auto, using(crate::proofs::Layers::answer_laws))]
 pub fn answers()
     ensures stored { (p q : Pool) (answer : Result Pooled PoolErr) → Gets p answer q → 0 < length p.stack
         → IsOk answer }
@@ -61,7 +60,6 @@ pub fn answers()
 /// What a put does. An arena that has no more bytes than the limit after its reset becomes the newest stored one, and
 /// so does every arena if there is no limit, as in a fixed pool. An arena that has more is given up. Either way one
 /// arena less is lent, and the kind and the limit are unchanged.
-#[tactic(auto, using(crate::proofs::Layers::put_laws))]
 pub fn puts()
     ensures kept { (p : Pool) (arena : View) (id : Option ℕ) (limit : ℕ) → p.limit ≡ Some limit
         → allocated_bytes (reset arena.memory.state) ≤ limit → put p arena id ≡ store p (reset_view arena, id) }
@@ -76,7 +74,6 @@ pub fn puts()
 {}
 
 /// The arena that was put last, if it is within the limit, is lent next, reset and with its id.
-#[tactic(auto, using(crate::proofs::Layers::put_is_newest))]
 pub fn newest()
     ensures { (p q : Pool) (arena : View) (id : Option ℕ) (lent : Pooled) → 0 < p.lent
         → IsWithin p.limit (reset_view arena)
@@ -115,6 +112,7 @@ pub fn kinds_by_values<T>()
 {}
 
 /// If an arena has no bytes in use, no non-empty block of it is readable, no matter which borrower placed the block.
+#[tactic(auto, using(arena_chunks::proofs::Layers::unused_unreadable))]
 pub fn unused()
     ensures { (kind : PoolKind) (arena : View) → IsUnused kind arena → NoneReadable arena.memory.state }
 {}
