@@ -9,18 +9,16 @@ use Rattle.arena_workers.specs.Order.{IsOf, IsShift}
 pub all_zip : {P S : Type 0} (served : P → S → Type 0) (plain : S → Type 0) → ((p : P) (s : S) → plain s → served p s)
     → (pieces : List P) (all : List S) → length all ≡ length pieces → All plain all → AllZip served pieces all
 all_zip served plain comes [] [] long is = tt
-all_zip served plain comes [] (s ∷ all) long is = absurd (omega (arith, long))
-all_zip served plain comes (p ∷ pieces) [] long is = absurd (omega (arith, long))
 all_zip served plain comes (p ∷ pieces) (s ∷ all) long is =
     (comes p s (All-head plain s all is), all_zip served plain comes pieces all (omega (arith, long)) (All-tail plain s all is))
+all_zip served plain comes pieces all long is = absurd (grind arith)
 
 module _ {P S : Type 0} (served : P → S → Type 0) where
   set_zip : (pieces : List P) (all : List S) (i : ℕ) (d : P) (s : S) → AllZip served pieces all → i < length pieces
       → served (get_or pieces i d) s → AllZip served pieces (set all i s)
-  set_zip [] all i d s are inside is = absurd (omega (arith, inside))
-  set_zip (p ∷ pieces) [] i d s are inside is = absurd are
   set_zip (p ∷ pieces) (t ∷ all) zero d s are inside is = (is, are.1)
   set_zip (p ∷ pieces) (t ∷ all) (suc i) d s are inside is = (are.0, set_zip pieces all i d s are.1 (omega (arith, inside)) is)
+  set_zip pieces all i d s are inside is = absurd (grind arith)
 
   -- an outcome of a piece is put into its place
   pub places : (pieces : List P) (all : List S) (i : ℕ) (s : S) → AllZip served pieces all → IsOf served pieces (i, s)
@@ -41,5 +39,4 @@ module _ {P S : Type 0} (served : P → S → Type 0) where
 
 -- the first of a list of which something holds, and the rest
 pub first_and_rest : {X : Type 0} (P : X → Type 0) (all rest : List X) (x : X) → all ≡ x ∷ rest → All P all → P x × All P rest
-first_and_rest P all rest x is holds =
-    let split = subst (All P) is holds in (All-head P x rest split, All-tail P x rest split)
+first_and_rest P all rest x is holds = let split = rw is at holds in (All-head P x rest split, All-tail P x rest split)

@@ -1,5 +1,5 @@
 -- What is kept of an arena that refused shows that the work on it was starved; and which pools refuse, and which are full.
-use Rattle.std.proofs.Common.{◌≡◌, ◌≢◌, ℕ, ◌+◌, ◌<◌, ◌≤◌, ◌^◌, inl, inr, List, [], ◌∷◌, ◌++◌, length, length-append, Option, None, Some, sym, refl, ap, ◌∙◌, subst, append_assoc, arith}
+use Rattle.std.proofs.Common.{◌≡◌, ◌≢◌, ℕ, ◌+◌, ◌<◌, ◌≤◌, ◌^◌, inl, inr, List, [], ◌∷◌, ◌++◌, length, length-append, Option, None, Some, refl, append_assoc, arith}
 use Rattle.std.specs.Prelude.{IfSome, IsSomeAnd}
 use Rattle.std.specs.List.{AllByRecursion}
 use Rattle.arena_rules.specs.State.{used_bytes, allocated_bytes, top_of}
@@ -16,36 +16,22 @@ use Rattle.arena_workers.specs.declared.served.Starved.TheVariants.{Refused, Gro
 use Rattle.arena_workers.proofs.KindLemmas.{grows_standard, full_small}
 
 -- The last item that was appended ends the list, if there is one.
-last_added : (most : ℕ) (before added : List (ℕ × ℕ)) → added ≢ [] → AllByRecursion (IsRequestWithin most) added
-    → EndsWithin most (before ++ added)
-last_added most before [] some within = absurd (some refl)
-last_added most before (r ∷ []) some within = record { before = before; last = r; all = refl; within = within.0 }
-last_added most before (r ∷ (s ∷ rs)) some within =
-    let rest = last_added most (before ++ r ∷ []) (s ∷ rs) (λ e. cc) within.1 in
-    record { before = rest.before; last = rest.last; all = sym (append_assoc before (r ∷ []) (s ∷ rs)) ∙ rest.all; within = rest.within }
-
-within_more : (few many : ℕ) (requests : List (ℕ × ℕ)) → few ≤ many → EndsWithin few requests → EndsWithin many requests
-within_more few many requests less is =
-    record { before = is.before; last = is.last; all = is.all; within = (omega (arith, less, is.within.0), is.within.1) }
+last_added : (few many : ℕ) (before added : List (ℕ × ℕ)) → few ≤ many → added ≢ [] → AllByRecursion (IsRequestWithin few) added
+    → EndsWithin many (before ++ added)
+last_added few many before [] less some within = absurd (some refl)
+last_added few many before (r ∷ []) less some within =
+    record { before = before; last = r; all = refl; within = (omega (arith, less, within.0.0), within.0.1) }
+last_added few many before (r ∷ (s ∷ rs)) less some within =
+    rw (← append_assoc before (r ∷ []) (s ∷ rs)) (last_added few many (before ++ r ∷ []) (s ∷ rs) less (λ e. cc) within.1)
 
 -- The requests of a run, of which there is at least one.
-ends_within : (most : ℕ) (some all : List (ℕ × ℕ)) → AddsWithin most some all → length some < length all → EndsWithin most all
-ends_within most some all adds longer =
-    subst (EndsWithin most) (sym adds.all) (last_added most some adds.added
-    (λ none. absurd (omega (arith, longer, grows none))) adds.within)
-  where
-    grows : adds.added ≡ [] → length all ≡ length some
-    grows none = ap length adds.all ∙ length-append some adds.added ∙ ap (λ (l : List (ℕ × ℕ)). length some + length l) none ∙ plus_none
-      where
-        plus_none : length some + 0 ≡ length some
-        plus_none = omega arith
-
 told_last : (few many : ℕ) (before after : Option (List (ℕ × ℕ))) → few ≤ many
     → IfSome after (λ all. IsSomeAnd before (λ some. AddsWithin few some all))
     → IfSome after (λ all. IsSomeAnd before (λ some. length some < length all)) → IfSome after (EndsWithin many)
 told_last few many before None less adds longer = tt
 told_last few many None (Some all) less adds longer = absurd adds
-told_last few many (Some some) (Some all) less adds longer = within_more few many all less (ends_within few some all adds longer)
+told_last few many (Some some) (Some all) less adds longer = rw adds.all (last_added few many some adds.added less
+    (λ none. absurd (grind (arith, adds.all, none, longer, length-append {A = ℕ × ℕ}))) adds.within)
 
 -- If the arena was low and isn't large, a starved run has a source that has refused; and its last request is small.
 source_shows : (bytes most : ℕ) (old new : View) → bytes ≤ most → used_bytes old.memory.state ≡ 0
@@ -54,14 +40,12 @@ source_shows : (bytes most : ℕ) (old new : View) → bytes ≤ most → used_b
     → (0 < new.source.refusals) × IfSome new.source.asked (EndsWithin (most_asked most))
 source_shows bytes most old new less unused low small asks starved = elim starved.cause [
   | inl far ↦ absurd (omega (arith, far, low))
-  | inr near ↦ elim near [
-    | inl large ↦ absurd (omega (arith, large, small))
-    | inr refused ↦ (
-      elim refused.refused [ inl rose ↦ omega (arith, rose) | inr last ↦ omega (arith, last) ],
-      told_last (most_asked (used_bytes old.memory.state + bytes)) (most_asked most) old.source.asked new.source.asked
-          (omega (arith, unused, less)) asks.told refused.asked,
-    )
-  ]
+  | inr (inl large) ↦ absurd (omega (arith, large, small))
+  | inr (inr refused) ↦ (
+    omega (arith, refused.refused),
+    told_last (most_asked (used_bytes old.memory.state + bytes)) (most_asked most) old.source.asked new.source.asked
+        (omega (arith, unused, less)) asks.told refused.asked,
+  )
 ]
 
 -- work on an arena of a pool, from before to after, that needs at most this many bytes
@@ -73,16 +57,10 @@ module _ {C : Type 0} (source : C → Source) (kind : PoolKind) (old new : View)
   pub standard : IsStarved (2 ^ 62) old new → kind ≡ Standard
   standard starved = grows_standard kind old.memory.state unused.of_kind starved.growing
 
-  shows : (most : ℕ) → bytes ≤ most → AsksWithin (used_bytes old.memory.state + bytes) old new → IsStarved (2 ^ 62) old new
-      → (s : Starved C) → IsKept source new s → ShowsStarved source most s
-  shows most less asks starved (Refused c) kept =
-      subst (λ (x : Source). (0 < x.refusals) × IfSome x.asked (EndsWithin (most_asked most))) (sym kept.0)
-      (source_shows bytes most old new less unused.used (low.top starved.growing) kept.1 asks starved)
-  shows most less asks starved (Grown a) kept =
-      subst (λ (b : View). 2 ^ 60 ≤ allocated_bytes b.memory.state) (sym kept.0) kept.1
-
   -- what is kept shows it, also for more bytes
   pub shown : (most : ℕ) → bytes ≤ most → AsksWithin (used_bytes old.memory.state + bytes) old new → IsStarved (2 ^ 62) old new
       → (o : Option (Starved C)) → IsSomeAnd o (IsKept source new) → IsSomeAnd o (ShowsStarved source most)
   shown most less asks starved None kept = absurd kept
-  shown most less asks starved (Some s) kept = shows most less asks starved s kept
+  shown most less asks starved (Some (Refused c)) kept =
+      rw kept.0 (source_shows bytes most old new less unused.used (low.top starved.growing) kept.1 asks starved)
+  shown most less asks starved (Some (Grown a)) kept = rw kept.0 kept.1
