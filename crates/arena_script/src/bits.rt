@@ -10,7 +10,7 @@ ghost use Rattle.arena_rules.specs.Bits.{words_for};
 ghost use Rattle.arena_script.specs.Things.{AreThings, bits_below};
 ghost use Rattle.arena_script.specs.Acts.{Acts};
 
-use crate::act::Act;
+use crate::act::{Act, found};
 use crate::kinds::set_of;
 use crate::thing::Thing;
 use arena_bits::BitSet;
@@ -45,11 +45,7 @@ pub(crate) fn make_bits<C: ChunkSource>(
         return Ok(Act::Tells(ScriptReply::NameTaken));
     }
     let set = BitSet::new_in(capacity as u64, a)?;
-    Ok(Act::Gives {
-        name,
-        thing: Thing::Bits(set),
-        reply: ScriptReply::Done,
-    })
+    Ok(Act::Gives(name, Thing::Bits(set), ScriptReply::Done))
 }
 
 #[inline(never)]
@@ -62,19 +58,12 @@ pub(crate) fn set_bit<C: ChunkSource>(
     requires { AreThings a.old.memory things.now }
     ensures { Acts (Command.SetBit name bit) things.now a.old a.new result }
 {
-    let mut set = match set_of(things, name) {
-        Ok(set) => set,
-        Err(reply) => return Ok(Act::Tells(reply)),
-    };
+    let mut set = found!(set_of(things, name));
     if !has_word(set, bit) {
         return Ok(Act::Tells(ScriptReply::OutOfRange));
     }
     set.set_bit(a, bit as u64);
-    Ok(Act::Gives {
-        name,
-        thing: Thing::Bits(set),
-        reply: ScriptReply::Done,
-    })
+    Ok(Act::Gives(name, Thing::Bits(set), ScriptReply::Done))
 }
 
 #[inline(never)]
@@ -87,19 +76,12 @@ pub(crate) fn unset_bit<C: ChunkSource>(
     requires { AreThings a.old.memory things.now }
     ensures { Acts (Command.UnsetBit name bit) things.now a.old a.new result }
 {
-    let mut set = match set_of(things, name) {
-        Ok(set) => set,
-        Err(reply) => return Ok(Act::Tells(reply)),
-    };
+    let mut set = found!(set_of(things, name));
     if !has_word(set, bit) {
         return Ok(Act::Tells(ScriptReply::OutOfRange));
     }
     set.unset_bit(a, bit as u64);
-    Ok(Act::Gives {
-        name,
-        thing: Thing::Bits(set),
-        reply: ScriptReply::Done,
-    })
+    Ok(Act::Gives(name, Thing::Bits(set), ScriptReply::Done))
 }
 
 #[inline(never)]
@@ -134,20 +116,10 @@ pub(crate) fn union<C: ChunkSource>(
     let Some(_other) = things.get(other) else {
         return Ok(Act::Tells(ScriptReply::NoSuchName));
     };
-    let mut set = match set_of(things, name) {
-        Ok(set) => set,
-        Err(reply) => return Ok(Act::Tells(reply)),
-    };
-    let more = match set_of(things, other) {
-        Ok(more) => more,
-        Err(reply) => return Ok(Act::Tells(reply)),
-    };
+    let mut set = found!(set_of(things, name));
+    let more = found!(set_of(things, other));
     set.union(a, &more);
-    Ok(Act::Gives {
-        name,
-        thing: Thing::Bits(set),
-        reply: ScriptReply::Done,
-    })
+    Ok(Act::Gives(name, Thing::Bits(set), ScriptReply::Done))
 }
 
 // The numbers of a set.
@@ -172,10 +144,7 @@ pub(crate) fn ones<C: ChunkSource>(
     requires { AreThings a.now.memory things.now }
     ensures { Acts (Command.Ones name) things.now a.now a.now result }
 {
-    let set = match set_of(things, name) {
-        Ok(set) => set,
-        Err(reply) => return Ok(Act::Tells(reply)),
-    };
+    let set = found!(set_of(things, name));
     let numbers = numbers_of(alloc, a, set)?;
     Ok(Act::Tells(ScriptReply::Numbers(numbers)))
 }
@@ -228,9 +197,5 @@ pub(crate) fn copied<C: ChunkSource>(
 {
     a.known();
     let copy = copy_of(a, set)?;
-    Ok(Act::Gives {
-        name: other,
-        thing: Thing::Bits(copy),
-        reply: ScriptReply::Done,
-    })
+    Ok(Act::Gives(other, Thing::Bits(copy), ScriptReply::Done))
 }

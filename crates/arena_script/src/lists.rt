@@ -8,7 +8,7 @@ ghost use Rattle.arena_script.specs.Kinds.{short};
 ghost use Rattle.arena_script.specs.Things.{AreThings};
 ghost use Rattle.arena_script.specs.Acts.{Acts};
 
-use crate::act::{Act, number_or_nothing};
+use crate::act::{Act, found, number_or_nothing};
 use crate::kinds::list_of;
 use crate::thing::Thing;
 use arena_chunks::{Allocator, ChunkSource};
@@ -32,11 +32,7 @@ pub(crate) fn make_list<C: ChunkSource>(
     if things.get(name).is_some() {
         return Ok(Act::Tells(ScriptReply::NameTaken));
     }
-    Ok(Act::Gives {
-        name,
-        thing: Thing::List(Vec::new_in()),
-        reply: ScriptReply::Done,
-    })
+    Ok(Act::Gives(name, Thing::List(Vec::new_in()), ScriptReply::Done))
 }
 
 #[inline(never)]
@@ -53,19 +49,12 @@ pub(crate) fn push<C: ChunkSource>(
     growth_costs();
     // Provides that the least alignment is 1.
     a.known();
-    let mut list = match list_of(things, name) {
-        Ok(list) => list,
-        Err(reply) => return Ok(Act::Tells(reply)),
-    };
+    let mut list = found!(list_of(things, name));
     if list.len() >= MOST_ITEMS {
         return Ok(Act::Tells(ScriptReply::CapacityOverflow));
     }
     list.push(a, value)?;
-    Ok(Act::Gives {
-        name,
-        thing: Thing::List(list),
-        reply: ScriptReply::Done,
-    })
+    Ok(Act::Gives(name, Thing::List(list), ScriptReply::Done))
 }
 
 #[inline(never)]
@@ -82,10 +71,7 @@ pub(crate) fn insert<C: ChunkSource>(
     growth_rule();
     growth_costs();
     a.known();
-    let mut list = match list_of(things, name) {
-        Ok(list) => list,
-        Err(reply) => return Ok(Act::Tells(reply)),
-    };
+    let mut list = found!(list_of(things, name));
     if at > list.len() {
         return Ok(Act::Tells(ScriptReply::OutOfRange));
     }
@@ -93,11 +79,7 @@ pub(crate) fn insert<C: ChunkSource>(
         return Ok(Act::Tells(ScriptReply::CapacityOverflow));
     }
     list.insert(a, at, value)?;
-    Ok(Act::Gives {
-        name,
-        thing: Thing::List(list),
-        reply: ScriptReply::Done,
-    })
+    Ok(Act::Gives(name, Thing::List(list), ScriptReply::Done))
 }
 
 #[inline(never)]
@@ -105,16 +87,9 @@ pub(crate) fn pop<C: ChunkSource>(a: &Allocator<C>, things: &Names<Thing>, name:
     requires { AreThings a.now.memory things.now }
     ensures { Acts (Command.Pop name) things.now a.now a.now result }
 {
-    let mut list = match list_of(things, name) {
-        Ok(list) => list,
-        Err(reply) => return Ok(Act::Tells(reply)),
-    };
+    let mut list = found!(list_of(things, name));
     let last = list.pop(a);
-    Ok(Act::Gives {
-        name,
-        thing: Thing::List(list),
-        reply: number_or_nothing(last),
-    })
+    Ok(Act::Gives(name, Thing::List(list), number_or_nothing(last)))
 }
 
 #[inline(never)]
@@ -127,19 +102,12 @@ pub(crate) fn remove<C: ChunkSource>(
     requires { AreThings a.old.memory things.now }
     ensures { Acts (Command.Remove name at) things.now a.old a.new result }
 {
-    let mut list = match list_of(things, name) {
-        Ok(list) => list,
-        Err(reply) => return Ok(Act::Tells(reply)),
-    };
+    let mut list = found!(list_of(things, name));
     if at >= list.len() {
         return Ok(Act::Tells(ScriptReply::OutOfRange));
     }
     let number = list.remove(a, at);
-    Ok(Act::Gives {
-        name,
-        thing: Thing::List(list),
-        reply: ScriptReply::Number(number as u64),
-    })
+    Ok(Act::Gives(name, Thing::List(list), ScriptReply::Number(number as u64)))
 }
 
 #[inline(never)]
@@ -152,10 +120,7 @@ pub(crate) fn at<C: ChunkSource>(
     requires { AreThings a.now.memory things.now }
     ensures { Acts (Command.At name at) things.now a.now a.now result }
 {
-    let list = match list_of(things, name) {
-        Ok(list) => list,
-        Err(reply) => return Ok(Act::Tells(reply)),
-    };
+    let list = found!(list_of(things, name));
     if at >= list.len() {
         return Ok(Act::Tells(ScriptReply::OutOfRange));
     }
@@ -173,19 +138,12 @@ pub(crate) fn put<C: ChunkSource>(
     requires { AreThings a.old.memory things.now }
     ensures { Acts (Command.Put name at value) things.now a.old a.new result }
 {
-    let mut list = match list_of(things, name) {
-        Ok(list) => list,
-        Err(reply) => return Ok(Act::Tells(reply)),
-    };
+    let mut list = found!(list_of(things, name));
     if at >= list.len() {
         return Ok(Act::Tells(ScriptReply::OutOfRange));
     }
     list.set(a, at, value);
-    Ok(Act::Gives {
-        name,
-        thing: Thing::List(list),
-        reply: ScriptReply::Done,
-    })
+    Ok(Act::Gives(name, Thing::List(list), ScriptReply::Done))
 }
 
 #[inline(never)]
@@ -198,16 +156,9 @@ pub(crate) fn truncate<C: ChunkSource>(
     requires { AreThings _a.now.memory things.now }
     ensures { Acts (Command.Truncate name len) things.now _a.now _a.now result }
 {
-    let mut list = match list_of(things, name) {
-        Ok(list) => list,
-        Err(reply) => return Ok(Act::Tells(reply)),
-    };
+    let mut list = found!(list_of(things, name));
     list.truncate(len);
-    Ok(Act::Gives {
-        name,
-        thing: Thing::List(list),
-        reply: ScriptReply::Done,
-    })
+    Ok(Act::Gives(name, Thing::List(list), ScriptReply::Done))
 }
 
 // The numbers of a list.
@@ -222,9 +173,9 @@ pub(crate) fn numbers_of<C: ChunkSource>(
 {
     let mut numbers = std::vec::Vec::new(alloc);
     for item in list.into_iter(a) {
-        if numbers.push(item as u64).is_err() {
-            return Err(AllocError::OutOfMemory);
-        }
+        numbers
+            .push(item as u64)
+            .map_err(|_| AllocError::OutOfMemory)?;
     }
     Ok(Numbers::from_vec(numbers))
 }
@@ -248,9 +199,5 @@ pub(crate) fn copied<C: ChunkSource>(
     a.known();
     let mut source = list;
     let copy = source.split_off(a, 0)?;
-    Ok(Act::Gives {
-        name: other,
-        thing: Thing::List(copy),
-        reply: ScriptReply::Done,
-    })
+    Ok(Act::Gives(other, Thing::List(copy), ScriptReply::Done))
 }

@@ -10,7 +10,7 @@ ghost use Rattle.std.specs.List.{flat_map};
 ghost use Rattle.arena_script.specs.Things.{AreThings, IsPairsIn, content, pairs_of};
 ghost use Rattle.arena_script.specs.Acts.{Acts};
 
-use crate::act::{Act, number_or_nothing};
+use crate::act::{Act, found, number_or_nothing};
 use crate::in_order::by_keys;
 use crate::kinds::map_of;
 use crate::thing::Thing;
@@ -32,11 +32,7 @@ pub(crate) fn make_map<C: ChunkSource>(
     if things.get(name).is_some() {
         return Ok(Act::Tells(ScriptReply::NameTaken));
     }
-    Ok(Act::Gives {
-        name,
-        thing: Thing::Map(HashMap::new_in()),
-        reply: ScriptReply::Done,
-    })
+    Ok(Act::Gives(name, Thing::Map(HashMap::new_in()), ScriptReply::Done))
 }
 
 #[inline(never)]
@@ -65,16 +61,9 @@ pub(crate) fn unbind<C: ChunkSource>(
     requires { AreThings a.old.memory things.now }
     ensures { Acts (Command.Unbind name key) things.now a.old a.new result }
 {
-    let mut map = match map_of(things, name) {
-        Ok(map) => map,
-        Err(reply) => return Ok(Act::Tells(reply)),
-    };
+    let mut map = found!(map_of(things, name));
     let old = map.remove(a, key);
-    Ok(Act::Gives {
-        name,
-        thing: Thing::Map(map),
-        reply: number_or_nothing(old),
-    })
+    Ok(Act::Gives(name, Thing::Map(map), number_or_nothing(old)))
 }
 
 // Whether a map has no room for a key.
@@ -98,19 +87,12 @@ pub(crate) fn bind<C: ChunkSource>(
     ensures { Acts (Command.Bind name key value) things.now a.old a.new result }
 {
     a.known();
-    let mut map = match map_of(things, name) {
-        Ok(map) => map,
-        Err(reply) => return Ok(Act::Tells(reply)),
-    };
+    let mut map = found!(map_of(things, name));
     if has_no_room(a, map, key) {
         return Ok(Act::Tells(ScriptReply::CapacityOverflow));
     }
     let old = map.insert(a, key, value)?;
-    Ok(Act::Gives {
-        name,
-        thing: Thing::Map(map),
-        reply: number_or_nothing(old),
-    })
+    Ok(Act::Gives(name, Thing::Map(map), number_or_nothing(old)))
 }
 
 // Copies the map of a name to another that holds nothing. The copy has the table of a new map for its pairs.
@@ -131,11 +113,7 @@ pub(crate) fn copied<C: ChunkSource>(
     lengths_law::<u32, u32, FxHasher>();
     a.known();
     let copy = map.clone_within(CloneInSemanticIds::With, a)?;
-    Ok(Act::Gives {
-        name: other,
-        thing: Thing::Map(copy),
-        reply: ScriptReply::Done,
-    })
+    Ok(Act::Gives(other, Thing::Map(copy), ScriptReply::Done))
 }
 
 // Each key of a map with its value, by rising keys.

@@ -17,7 +17,7 @@ fn settle(things: &mut Names<Thing>, act: Act) -> Result<ScriptReply, AllocError
 {
     match act {
         Act::Tells(reply) => Ok(reply),
-        Act::Gives { name, thing, reply } => match things.insert(name, thing) {
+        Act::Gives(name, thing, reply) => match things.insert(name, thing) {
             Ok(()) => Ok(reply),
             Err(_) => Err(AllocError::OutOfMemory),
         },

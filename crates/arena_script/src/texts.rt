@@ -9,7 +9,7 @@ ghost use Rattle.script_rules.specs.Effects as effects;
 ghost use Rattle.arena_script.specs.Things.{AreThings, IsWordsIn};
 ghost use Rattle.arena_script.specs.Acts.{Acts};
 
-use crate::act::Act;
+use crate::act::{Act, found};
 use crate::kinds::text_of;
 use crate::thing::Thing;
 use arena_chunks::{Allocator, Bytes, ChunkSource};
@@ -46,11 +46,11 @@ pub(crate) fn make_text<C: ChunkSource>(
     if things.get(name).is_some() {
         return Ok(Act::Tells(ScriptReply::NameTaken));
     }
-    Ok(Act::Gives {
+    Ok(Act::Gives(
         name,
-        thing: Thing::Text(StringBuilder::new_in()),
-        reply: ScriptReply::Done,
-    })
+        Thing::Text(StringBuilder::new_in()),
+        ScriptReply::Done,
+    ))
 }
 
 #[inline(never)]
@@ -66,10 +66,7 @@ pub(crate) fn append<C: ChunkSource>(
     length_rule();
     growth_rule();
     a.known();
-    let mut text = match text_of(things, name) {
-        Ok(text) => text,
-        Err(reply) => return Ok(Act::Tells(reply)),
-    };
+    let mut text = found!(text_of(things, name));
     if has_other(bytes) {
         return Ok(Act::Tells(ScriptReply::NotAscii));
     }
@@ -77,11 +74,7 @@ pub(crate) fn append<C: ChunkSource>(
         return Ok(Act::Tells(ScriptReply::CapacityOverflow));
     }
     text.push_bytes_unchecked(a, bytes)?;
-    Ok(Act::Gives {
-        name,
-        thing: Thing::Text(text),
-        reply: ScriptReply::Done,
-    })
+    Ok(Act::Gives(name, Thing::Text(text), ScriptReply::Done))
 }
 
 #[inline(never)]
@@ -110,10 +103,7 @@ pub(crate) fn front<C: ChunkSource>(
     length_rule();
     growth_rule();
     a.known();
-    let mut text = match text_of(things, name) {
-        Ok(text) => text,
-        Err(reply) => return Ok(Act::Tells(reply)),
-    };
+    let mut text = found!(text_of(things, name));
     if has_other(&[byte]) {
         return Ok(Act::Tells(ScriptReply::NotAscii));
     }
@@ -121,11 +111,7 @@ pub(crate) fn front<C: ChunkSource>(
         return Ok(Act::Tells(ScriptReply::CapacityOverflow));
     }
     text.push_byte_start_unchecked(a, byte)?;
-    Ok(Act::Gives {
-        name,
-        thing: Thing::Text(text),
-        reply: ScriptReply::Done,
-    })
+    Ok(Act::Gives(name, Thing::Text(text), ScriptReply::Done))
 }
 
 // The bytes of a text.
@@ -138,10 +124,7 @@ pub(crate) fn bytes_of<C: ChunkSource>(
     ensures bytes { IfOk result (λ bytes. bytes ≡ builder_bytes a.now.memory text) }
     ensures exhausted { IfErr result (λ e. e ≡ AllocError.OutOfMemory) }
 {
-    match Bytes::of(alloc, text.as_bytes(a)) {
-        Ok(bytes) => Ok(bytes),
-        Err(_) => Err(AllocError::OutOfMemory),
-    }
+    Bytes::of(alloc, text.as_bytes(a)).map_err(|_| AllocError::OutOfMemory)
 }
 
 // Copies the text of a name to another that holds nothing. The copy has room for its bytes.
@@ -162,13 +145,10 @@ pub(crate) fn copied<C: ChunkSource>(
     a.known();
     let source = text.into_str();
     let copy = source.clone_within(CloneInSemanticIds::With, a)?;
-    Ok(Act::Gives {
-        name: other,
-        thing: Thing::Text(StringBuilder {
-            block: copy.block,
-            len: text.len,
-            cap: text.len,
-        }),
-        reply: ScriptReply::Done,
-    })
+    let made = StringBuilder {
+        block: copy.block,
+        len: text.len,
+        cap: text.len,
+    };
+    Ok(Act::Gives(other, Thing::Text(made), ScriptReply::Done))
 }

@@ -6,7 +6,7 @@ ghost use Rattle.script_rules.specs.Objects.{get};
 ghost use Rattle.arena_script.specs.Things.{AreThings};
 ghost use Rattle.arena_script.specs.Acts.{Acts};
 
-use crate::act::Act;
+use crate::act::{Act, found};
 use crate::kinds::value_of;
 use crate::thing::Thing;
 use arena_chunks::{Allocator, ChunkSource};
@@ -30,11 +30,7 @@ pub(crate) fn make_value<C: ChunkSource>(
     }
     let made: Grown<Box<u64>> = Box::from_in(value, a);
     let value = made?;
-    Ok(Act::Gives {
-        name,
-        thing: Thing::Value(value),
-        reply: ScriptReply::Done,
-    })
+    Ok(Act::Gives(name, Thing::Value(value), ScriptReply::Done))
 }
 
 #[inline(never)]
@@ -58,16 +54,9 @@ pub(crate) fn store<C: ChunkSource>(
     requires { AreThings a.old.memory things.now }
     ensures { Acts (Command.Store name new) things.now a.old a.new result }
 {
-    let value = match value_of(things, name) {
-        Ok(value) => value,
-        Err(reply) => return Ok(Act::Tells(reply)),
-    };
+    let value = found!(value_of(things, name));
     value.set(a, new);
-    Ok(Act::Gives {
-        name,
-        thing: Thing::Value(value),
-        reply: ScriptReply::Done,
-    })
+    Ok(Act::Gives(name, Thing::Value(value), ScriptReply::Done))
 }
 
 // Copies the value of a name to another that holds nothing.
@@ -88,9 +77,5 @@ pub(crate) fn copied<C: ChunkSource>(
     let content = value.get(a);
     let made: Grown<Box<u64>> = Box::from_in(content, a);
     let copy = made?;
-    Ok(Act::Gives {
-        name: other,
-        thing: Thing::Value(copy),
-        reply: ScriptReply::Done,
-    })
+    Ok(Act::Gives(other, Thing::Value(copy), ScriptReply::Done))
 }
