@@ -31,10 +31,7 @@ fn exhausted(r: Result<(), OutOfMemory>) -> Grown<()>
     ensures same { IfOk result (λ x. r ≡ Ok x) }
     ensures exhausted { IsExhausted (error_of result) }
 {
-    match r {
-        Ok(x) => Ok(x),
-        Err(_) => Err(AllocError::OutOfMemory),
-    }
+    r.map_err(|_| AllocError::OutOfMemory)
 }
 
 // Defines a name. Returns what is found of it, if anything.
