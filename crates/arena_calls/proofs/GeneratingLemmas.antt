@@ -1,15 +1,10 @@
 -- Calls from a number, one after another, and the summary of their replies.
-use Rattle.std.proofs.Common.{◌≡◌, ℕ, ◌+◌, ◌<◌, ◌≤◌, List, [], ◌∷◌, ◌++◌, Some, take, refl, sym, ap, ◌∙◌, subst, arith, add-one}
+use Rattle.std.proofs.Common.{◌≡◌, ℕ, ◌+◌, ◌<◌, ◌≤◌, [], ◌∷◌, ◌++◌, Some, take, refl, sym, ap, ◌∙◌, subst, arith, add-one}
 use Rattle.std.specs.Prelude.{slice_get}
 use Rattle.std.proofs.lemmas.Option.{slice_get_read}
 use Rattle.std.proofs.lemmas.List.FromFn.{length-map-range_with_len, get_or-map-range_with_len, take-map-range_with_len, map-range_with_len_more}
-use Rattle.arena_rules.specs.State.{State, used_bytes, allocated_bytes}
 use Rattle.call_rules.specs.Generator.{call_at, seed_before, seed_behind, gen_calls}
-use Rattle.call_rules.specs.Summary.{Summary as Eight, summary_of, summary_text}
 use Rattle.call_rules.specs.declared.calls.Call.{Call}
-use Rattle.call_rules.specs.declared.calls.Reply.{Reply}
-use Rattle.arena_calls.specs.Tallies.{IsTally}
-use Rattle.arena_calls.specs.declared.generator.tally.Tally.{Tally}
 
 pub seed_first : (start : ℕ) → start ≡ seed_before start 0
 unfolding seed_before
@@ -34,24 +29,3 @@ call_next start count i seed call within same is =
     let call_of : ℕ → Call = λ j. call_at j (seed_before start j) in
     slice_get_read (gen_calls start count) count i call (sym (length-map-range_with_len call_of 0 count)) within
     (is ∙ ap (call_at i) same ∙ sym (get_or-map-range_with_len call_of 0 count i i call within (omega arith)))
-
--- what was counted, and the bytes of the chunks
-abbrev counted : Tally → ℕ → ℕ → Eight
-counted tally used allocated = record {
-  calls = tally.calls;
-  placed = tally.placed;
-  failed = tally.failed;
-  other = tally.other;
-  bytes = tally.bytes;
-  byte_sum = tally.byte_sum;
-  used = used;
-  allocated = allocated;
-}
-
--- that is the summary
-pub summed : (tally : Tally) (replies : List Reply) (state : State) (used allocated : ℕ) (old new : List ℕ) → IsTally tally replies
-    → used ≡ used_bytes state → allocated ≡ allocated_bytes state → new ≡ old ++ summary_text (counted tally used allocated)
-    → new ≡ old ++ summary_text (summary_of replies state)
-summed tally replies state used allocated old new is used_is allocated_is put =
-    put ∙ ap (λ (eight : Eight). old ++ summary_text eight)
-    (rw (is.calls, is.placed, is.failed, is.other, is.bytes, is.byte_sum, used_is, allocated_is) refl)
