@@ -1,5 +1,5 @@
 -- What a refusal implies, whatever type carries it.
-use Rattle.std.proofs.Common.{◌≡◌, ℕ, ap, Err}
+use Rattle.std.proofs.Common.{◌≡◌, ℕ, arith, Err}
 use Rattle.arena_rules.specs.Moves.{Resizing}
 use Rattle.arena_chunks.specs.Source.{View}
 use Rattle.arena_chunks.specs.Answers.{Answer, answer_of, answer_by}
@@ -25,10 +25,8 @@ refused_buffer block OutOfMemory P is = is
 -- A refusal leaves the arena's memory as it was.
 pub refused_memory : (old new : View) (size align : ℕ) (e : ArenaErr) → PlacesBlock old new size align (answer_of (Err e))
     → new.memory ≡ old.memory
-refused_memory old new size align (AllocErr k) places = places.1.outcome.1.memory
-refused_memory old new size align OutOfMemory places = ap (λ (v : View). v.memory) places.1.outcome.same
+refused_memory old new size align e places = grind (arith, places)
 
 pub resize_refused_memory : (way : Resizing) (old new : View) (block : Block) (size align : ℕ) (e : ArenaErr)
     → ResizesBlock way old new block size align (answer_of (Err e)) → new.memory ≡ old.memory
-resize_refused_memory way old new block size align (AllocErr k) resizes = resizes.1.outcome.1.memory
-resize_refused_memory way old new block size align OutOfMemory resizes = ap (λ (v : View). v.memory) resizes.1.outcome.1.same
+resize_refused_memory way old new block size align e resizes = grind (arith, resizes)

@@ -4,7 +4,7 @@ use Rattle.arena_chunks.specs.Memory.{Memory}
 use Rattle.arena_chunks.specs.Source.{View}
 use Rattle.arena_chunks.specs.Answers.Answer.{Placed}
 use Rattle.arena_chunks.specs.BlockCalls.{PlacesBlock, WritesBlock}
-use Rattle.arena_chunks.specs.Frame.{Frame, IsApart}
+use Rattle.arena_chunks.specs.Frame.{Frame}
 use Rattle.arena_store.specs.declared.block.Block.{Block}
 use Rattle.arena_items.specs.declared.item.Item.{Ghosts}
 use Rattle.arena_items.specs.declared.boxes.Box.{Box}
@@ -14,7 +14,7 @@ use Rattle.arena_items.specs.declared.room.AllocError.{AllocError}
 use Rattle.arena_items.specs.declared.room.AllocError.TheVariants.{AllocErr, CapacityOverflow, OutOfMemory}
 use Rattle.arena_items.specs.Room.{RoomAnswer, TakesRoom, growth_error}
 use Rattle.arena_items.specs.Typed.{PlacesBox}
-use Rattle.arena_items.specs.Values.{IsBoxIn, bytes_of, elements}
+use Rattle.arena_items.specs.Values.{bytes_of, elements}
 use Rattle.arena_items.proofs.Layers.{box_held, box_same, box_apart, elements-all}
 use Rattle.example_blocks.specs.Rows.{BeginsWith, BoxThenRow}
 
@@ -40,23 +40,17 @@ module _ (number : Ghosts ℕ) (handle : Ghosts (Box ℕ)) (old mid last : View)
     (box : Box ℕ) (row : Block)
     (places : PlacesBox number old mid (λ v. v ≡ n) (Ok box)) (taken : PlacesBlock mid last size align (Placed row))
     (writes : WritesBlock last.memory new row at list) where
-  frame : Frame mid.memory last.memory [] (row ∷ [])
-  frame = taken.1.outcome.frame
-
-  held : IsBoxIn number last.memory box
-  held = box_held number mid.memory last.memory [] (row ∷ []) box frame places.held tt
-
-  apart : IsApart box.block.addr box.block.size (row ∷ [])
-  apart = box_apart number mid.memory last.memory [] (row ∷ []) box frame places.held tt
-
   -- The row begins with the box, which has the number as its value.
   pub row_begins : elements handle.SIZE handle.decoded (0 + 1) (bytes_of new row)
       ≡ elements handle.SIZE handle.decoded 0 (bytes_of last.memory row) ++ box ∷ []
       → BeginsWith number handle new row n
-  row_begins push = record {
-    box = box;
-    first = elements-all handle.SIZE handle.decoded 1 _ _ _ push;
-    held = box_held number last.memory new (row ∷ []) (row ∷ []) box writes.frame held apart;
-    value = box_same number last.memory new (row ∷ []) (row ∷ []) box writes.frame held apart
-        ∙ box_same number mid.memory last.memory [] (row ∷ []) box frame places.held tt ∙ places.value;
-  }
+  row_begins push =
+      let frame : Frame mid.memory last.memory [] (row ∷ []) = taken.1.outcome.frame in
+      let held = box_held number mid.memory last.memory [] (row ∷ []) box frame places.held tt in
+      let apart = box_apart number mid.memory last.memory [] (row ∷ []) box frame places.held tt in record {
+        box = box;
+        first = elements-all handle.SIZE handle.decoded 1 _ _ _ push;
+        held = box_held number last.memory new (row ∷ []) (row ∷ []) box writes.frame held apart;
+        value = box_same number last.memory new (row ∷ []) (row ∷ []) box writes.frame held apart
+            ∙ box_same number mid.memory last.memory [] (row ∷ []) box frame places.held tt ∙ places.value;
+      }

@@ -6,7 +6,7 @@ use Rattle.arena_rules.proofs.BackLemmas.{back_at_once}
 use Rattle.arena_chunks.specs.Memory.{Memory, KeepsUsed}
 use Rattle.arena_chunks.specs.Source.{View}
 use Rattle.arena_chunks.specs.Answers.{Answer}
-use Rattle.arena_chunks.specs.Answers.Answer.{Placed, Refused, Exhausted}
+use Rattle.arena_chunks.specs.Answers.Answer.{Placed}
 use Rattle.arena_chunks.specs.BlockCalls.{PlacesBlock}
 use Rattle.arena_chunks.specs.Checkpoints.{checkpoint_of, is_accepted, sent_back, GoesBack, KeepsCheckpoint}
 use Rattle.arena_items.specs.FrameLaw.{StaysInUse}
@@ -15,11 +15,7 @@ used_kept : (old new : View) (size align : ℕ) (answer : Answer) → PlacesBloc
 used_kept old new size align (Placed b) p =
     let frame = p.1.outcome.frame in
     record { used = λ addr used. frame.kept addr 1 (omega arith) used tt; bytes = λ addr used. frame.bytes addr used tt }
-used_kept old new size align (Refused r) p =
-    subst (KeepsUsed old.memory) (sym p.1.outcome.1.memory) (record { used = λ addr used. used; bytes = λ addr used. refl })
-used_kept old new size align Exhausted p =
-    subst (λ (v : View). KeepsUsed old.memory v.memory) (sym p.1.outcome.same)
-    (record { used = λ addr used. used; bytes = λ addr used. refl })
+used_kept old new size align answer p = grind (arith, p)
 
 pub try_over : (old mid : View) (new : Memory) (size align : ℕ) (answer : Answer) → PlacesBlock old mid size align answer
     → KeepsCheckpoint (checkpoint_of old.memory.state) old.memory.state mid.memory.state

@@ -1,11 +1,11 @@
-use Rattle.std.proofs.Common.{◌≡◌, ℕ, ◌+◌, ◌^◌, ◌≤◌, refl, subst, ◌∙◌, arith, Err, IsTrue}
+use Rattle.std.proofs.Common.{◌+◌, ◌^◌, ◌≤◌, refl, ◌∙◌, arith, Err, IsTrue}
 use Rattle.std.proofs.lemmas.Result.{err_from_is_err_and}
 use Rattle.arena_rules.specs.Rounding.{is_power}
 use Rattle.arena_rules.proofs.RoundingLemmas.{layout_power}
 use Rattle.arena_chunks.specs.Source.{View}
-use Rattle.arena_chunks.specs.Answers.{Answer, answer_of}
-use Rattle.arena_chunks.specs.Answers.Answer.{Placed, Refused}
-use Rattle.arena_chunks.specs.BlockCalls.{PlacesBlock, GrowsBlock, growing_of}
+use Rattle.arena_chunks.specs.Answers.{answer_of}
+use Rattle.arena_chunks.specs.Answers.Answer.{Placed}
+use Rattle.arena_chunks.specs.BlockCalls.{growing_of}
 use Rattle.example_blocks.specs.Accounts.{needed}
 use Rattle.example_blocks.proofs.AccountLemmas.{full_within}
 use Rattle.example_blocks.proofs.asking.place_then_grow.Goals as goal
@@ -17,19 +17,17 @@ returns-in_err-block-clause-accounts g c =
     let small = c.args.small in
     let old : View = c.args.a.now in
     let new : View = c.alloc_layout.new.self in
-    let places : (k : ℕ) → answer_of (Err c.in_err-block.field-0.0) ≡ Refused k → PlacesBlock old new small.size small.align (Refused k) =
-    λ k is. subst (λ (a : Answer). PlacesBlock old new small.size small.align a) is c.in_err-block.ensures in
     let p = err_from_is_err_and c.from_residual.result c.from_residual.ensures.1 in
     rw (p.1, p.2) (record {
       asks = c.asks.ensures.placed (needed old small.size c.args.large.size) old new small.size small.align
           (answer_of (Err c.in_err-block.field-0.0)) small.valid
           (omega arith) (omega (arith, c.known.ensures.state)) c.in_err-block.ensures;
       starved = λ growing k is. c.starved_together.ensures.by (2 ^ 63) old.memory.state new.memory.state old.source new.source growing
-          (λ low. c.starved.ensures.placed old new small.size small.align k small.valid (omega arith) (omega arith) growing (places k is)
+          (λ low. c.starved.ensures.placed old new small.size small.align k small.valid (omega arith) (omega arith) growing (rw is at c.in_err-block.ensures)
           (omega (arith, low)));
       full = λ still k is. full_within _ (needed old small.size c.args.large.size) old old
           (omega (arith, c.known.ensures.state)) refl refl
-          (c.full.ensures.placed old new small.size small.align k small.valid still (places k is));
+          (c.full.ensures.placed old new small.size small.align k small.valid still (rw is at c.in_err-block.ensures));
     })
 
 -- ---- The second call
@@ -82,8 +80,6 @@ returns-in_err-grown-clause-accounts g c =
     (omega (arith, most, first.frame.min_align, c.known.ensures.state)) c.in_err-grown.ensures in
     let power : IsTrue (is_power block.align) = rw first.of_layout.of_align (layout_power small.size small.align small.valid) in
     let low : block.align ≤ 16 = omega (arith, first.of_layout.of_align) in
-    let grows : (k : ℕ) → answer_of (Err c.in_err-grown.field-0.0) ≡ Refused k → GrowsBlock mid new block large.size large.align (Refused k) =
-    λ k is. subst (λ (a : Answer). GrowsBlock mid new block large.size large.align a) is c.in_err-grown.ensures in
     let p = err_from_is_err_and c.from_residual-in_err-grown.result c.from_residual-in_err-grown.ensures.1 in
     rw (p.1, p.2) (record {
       asks = c.asked_together.ensures.then (needed old small.size large.size) old.memory.state mid.memory.state new.memory.state
@@ -95,9 +91,9 @@ returns-in_err-grown-clause-accounts g c =
           (c.starved_together.ensures.by (2 ^ 63 + 2 ^ 61) mid.memory.state new.memory.state mid.source new.source still_growing
           (λ near. c.starved.ensures.grown mid new block large.size large.align k large.valid (omega arith) power low
           (omega arith) still_growing
-          (grows k is) (omega (arith, near))));
+          (rw is at c.in_err-grown.ensures) (omega (arith, near))));
       full = λ still k is. full_within _ (needed old small.size large.size) old mid
           (omega (arith, most, first.frame.min_align, c.known.ensures.state))
           first.frame.is_growing (first.frame.allocated still)
-          (c.full.ensures.grown mid new block large.size large.align k large.valid power low (first.frame.is_growing ∙ still) (grows k is));
+          (c.full.ensures.grown mid new block large.size large.align k large.valid power low (first.frame.is_growing ∙ still) (rw is at c.in_err-grown.ensures));
     })

@@ -4,9 +4,9 @@ use Rattle.arena_chunks.specs.BlockCalls.{PlacesBlock}
 use Rattle.arena_store.specs.declared.block.Block.{Block}
 use Rattle.arena_items.specs.declared.boxes.Box.{Box}
 use Rattle.arena_items.specs.Costs.{farthest}
-use Rattle.arena_items.specs.Room.{growth_error}
+use Rattle.arena_items.specs.Room.{SamePlaces, growth_error}
 use Rattle.arena_items.proofs.Layers.{refused_as, wrote_same}
-use Rattle.example_blocks.proofs.CostLemmas.{no_block, none_held, still_same, made, covered, number_covered}
+use Rattle.example_blocks.proofs.CostLemmas.{placing_costs, number_costs}
 use Rattle.example_blocks.proofs.RowLemmas.{box_refused, row_refused, row_begins}
 use Rattle.example_blocks.proofs.growing.begin_row.Goals as goal
 
@@ -46,10 +46,8 @@ returns-in_err-boxed-clause-costs g c = λ few.
     let old = c.args.a.now in
     let new = c.new_in.new.a in
     let e = c.in_err-boxed.field-0.0 in
-    let first = c.room_law.ensures.costs old new (no_block 4) 4 4 0 1 (λ b. b) 7 0 0 (Err (growth_error e)) c.known.ensures.state
-    (none_held 4 4 old.memory.state) (omega arith) (number_covered (Err (growth_error e)))
-    (made old new new 4 4 1 (still_same new) (Err (growth_error e))
-    (refused_as (λ (b : Box ℕ). b.block) (λ (b : Block). b) e (PlacesBlock old new 4 4) c.in_err-boxed.ensures.placed)) in
+    let first = number_costs old new (Err (growth_error e)) c.known.ensures.state
+    (refused_as (λ (b : Box ℕ). b.block) (λ (b : Block). b) e (PlacesBlock old new 4 4) c.in_err-boxed.ensures.placed) in
     rw (p.1, p.2) (c.costs_law.ensures.weaken (farthest - 2 ^ 61) farthest 7 (7 + (c.args.cap * 32 + 7)) 0 0 old new (Err (growth_error e))
     (omega arith) (omega arith) first)
 
@@ -65,14 +63,11 @@ returns-in_err-row-clause-costs g c = λ few.
     let frame = c.in_ok-boxed.ensures.placed.1.outcome.frame in
     let one = frame.min_align ∙ c.known.ensures.state in
     let layout = rw (is.0, is.1) at c.in-Some.layout.valid in
-    let first = c.room_law.ensures.costs old mid (no_block 4) 4 4 0 1 (λ b. b) 7 0 0 (Ok box) c.known.ensures.state
-    (none_held 4 4 old.memory.state) (omega arith) (number_covered (Ok box))
-    (made old mid mid 4 4 1 (still_same mid) (Ok box) c.in_ok-boxed.ensures.placed) in
+    let first = number_costs old mid (Ok box) c.known.ensures.state c.in_ok-boxed.ensures.placed in
     let places = c.room_law.ensures.not_taken mid new c.empty.result 0 (c.args.cap * 32) 8 (λ b. b) e one layout
     (ap (λ (b : Block). b.align) c.empty.ensures) (rw (is.0, is.1) at c.in_err-row.ensures.takes) in
-    let second = c.room_law.ensures.costs mid new (no_block 8) 32 8 0 c.args.cap (λ b. b) (c.args.cap * 32 + 7) 0 0 (Err e) one
-    (none_held 32 8 mid.memory.state) (omega arith) (covered (c.args.cap * 32) 8 layout (omega arith) few (Err e))
-    (made mid new new 32 8 c.args.cap (still_same new) (Err e) places) in
+    let same : SamePlaces new new = record { state = refl; statistics = refl; source = refl } in
+    let second = placing_costs mid new new 32 8 c.args.cap same (Err e) one layout (omega arith) few places in
     rw (p.1, p.2) (c.costs_law.ensures.then (farthest - 2 ^ 61) 7 (c.args.cap * 32 + 7) 0 0 0 old mid new (Ok box) (Err e)
     frame.is_growing frame.allocated refl (c.costs_law.ensures.ok farthest (farthest - 2 ^ 61) 7 0 0 old mid (Ok box) refl first) second)
 
@@ -88,12 +83,9 @@ returns-clause-costs g c = λ few.
     let frame = c.in_ok-boxed.ensures.placed.1.outcome.frame in
     let one = frame.min_align ∙ c.known.ensures.state in
     let layout = rw (is.0, is.1) at c.in-Some.layout.valid in
-    let first = c.room_law.ensures.costs old mid (no_block 4) 4 4 0 1 (λ b. b) 7 0 0 (Ok box) c.known.ensures.state
-    (none_held 4 4 old.memory.state) (omega arith) (number_covered (Ok box))
-    (made old mid mid 4 4 1 (still_same mid) (Ok box) c.in_ok-boxed.ensures.placed) in
-    let second = c.room_law.ensures.costs mid new (no_block 8) 32 8 0 c.args.cap (λ b. b) (c.args.cap * 32 + 7) 0 0 (Ok row) one
-    (none_held 32 8 mid.memory.state) (omega arith) (covered (c.args.cap * 32) 8 layout (omega arith) few (Ok row))
-    (made mid last new 32 8 c.args.cap (wrote_same last new row _ _ c.put_item.ensures.writes c.put_item.ensures.source) (Ok row)
-    (rw (is.0, is.1) at (c.in_ok-row.ensures.takes.placed refl))) in
+    let first = number_costs old mid (Ok box) c.known.ensures.state c.in_ok-boxed.ensures.placed in
+    let same = wrote_same last new row _ _ c.put_item.ensures.writes c.put_item.ensures.source in
+    let places = rw (is.0, is.1) at (c.in_ok-row.ensures.takes.placed refl) in
+    let second = placing_costs mid last new 32 8 c.args.cap same (Ok row) one layout (omega arith) few places in
     c.costs_law.ensures.then (farthest - 2 ^ 61) 7 (c.args.cap * 32 + 7) 0 0 0 old mid new (Ok box) (Ok row)
     frame.is_growing frame.allocated refl (c.costs_law.ensures.ok farthest (farthest - 2 ^ 61) 7 0 0 old mid (Ok box) refl first) second

@@ -25,22 +25,16 @@ returns-in_err-other-clause-calls g c =
       );
     }))
 
-pub returns-clause-calls : goal.returns-clause-calls
-returns-clause-calls g c =
-    record { between = _; block = _; placed = c.in_ok-one.ensures.placed; follows = (c.in_ok-other.ensures.placed, refl) }
-
-pub returns-clause-first : goal.returns-clause-first
-returns-clause-first g c =
-    let was = c.in_ok-one.ensures.holds in
-    let stays = frame_keeps_new _ _ (c.in_ok-other.other ∷ []) c.in_ok-one.one c.in_ok-other.ensures.placed.1.outcome.frame was.readable in
-    record { readable = stays.readable; bytes = stays.bytes ∙ was.bytes }
-
-pub returns-clause-apart : goal.returns-clause-apart
-returns-clause-apart g c =
-    (frame_keeps_new _ _ (c.in_ok-other.other ∷ []) c.in_ok-one.one c.in_ok-other.ensures.placed.1.outcome.frame
-    c.in_ok-one.ensures.holds.readable).apart.0
-
-pub returns-clause-frame : goal.returns-clause-frame
-returns-clause-frame g c =
-    let beside = frame_beside _ _ [] (c.in_ok-other.other ∷ []) (c.in_ok-one.one ∷ []) c.in_ok-other.ensures.placed.1.outcome.frame in
-    frame_then _ _ _ [] (c.in_ok-one.one ∷ []) (c.in_ok-other.other ∷ c.in_ok-one.one ∷ []) c.in_ok-one.ensures.placed.1.outcome.frame beside
+pub returns : goal.returns
+returns g c =
+    let one = c.in_ok-one.ensures in
+    let other = c.in_ok-other.ensures in
+    let stays = frame_keeps_new _ _ (c.in_ok-other.other ∷ []) c.in_ok-one.one other.placed.1.outcome.frame one.holds.readable in
+    let beside = frame_beside _ _ [] (c.in_ok-other.other ∷ []) (c.in_ok-one.one ∷ []) other.placed.1.outcome.frame in
+    record {
+      calls = record { between = _; block = _; placed = one.placed; follows = (other.placed, refl) };
+      first = record { readable = stays.readable; bytes = stays.bytes ∙ one.holds.bytes };
+      second = other.holds;
+      apart = stays.apart.0;
+      frame = frame_then _ _ _ [] (c.in_ok-one.one ∷ []) (c.in_ok-other.other ∷ c.in_ok-one.one ∷ []) one.placed.1.outcome.frame beside;
+    }

@@ -1,6 +1,6 @@
 use Rattle.std.proofs.Common.{inl, inr}
 use Rattle.std.proofs.lemmas.Result.{err_from_is_err_and}
-use Rattle.example_blocks.proofs.ChainLemmas.{made_held, made_numbers, made_frame}
+use Rattle.example_blocks.proofs.ChainLemmas.{made}
 use Rattle.example_blocks.proofs.linked.Chain.make.Goals as goal
 
 pub returns-in_err-second-clause-calls : goal.returns-in_err-second-clause-calls
@@ -29,13 +29,10 @@ returns-in_err-first-clause-calls g c =
     }))
 
 pub returns-clause-held : goal.returns-clause-held
-returns-clause-held g c =
-    made_held _ _ _ _ _ _ _ _ _ c.in_ok-third.ensures c.in_ok-second.ensures _ _ _ _ c.in_ok-first.ensures
+returns-clause-held g c = (made _ _ _ _ _ _ _ _ _ c.in_ok-third.ensures c.in_ok-second.ensures _ _ _ _ c.in_ok-first.ensures).0
 
 pub returns-clause-numbers : goal.returns-clause-numbers
-returns-clause-numbers g c =
-    made_numbers _ _ _ _ _ _ _ _ _ c.in_ok-third.ensures c.in_ok-second.ensures _ _ _ _ c.in_ok-first.ensures
+returns-clause-numbers g c = (made _ _ _ _ _ _ _ _ _ c.in_ok-third.ensures c.in_ok-second.ensures _ _ _ _ c.in_ok-first.ensures).1
 
 pub returns-clause-frame : goal.returns-clause-frame
-returns-clause-frame g c =
-    made_frame _ _ _ _ _ _ _ _ _ c.in_ok-third.ensures c.in_ok-second.ensures _ _ _ _ c.in_ok-first.ensures
+returns-clause-frame g c = (made _ _ _ _ _ _ _ _ _ c.in_ok-third.ensures c.in_ok-second.ensures _ _ _ _ c.in_ok-first.ensures).2
