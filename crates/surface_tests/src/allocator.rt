@@ -1,67 +1,52 @@
-// Public items of the allocator, and of the two traits of blocks other than bumpalo's.
+// Public items of the allocator, and of the three traits of blocks.
+use arena_chunks::bumpalo_alloc::{Alloc as BumpaloAlloc, CannotReallocInPlace, Excess};
 use arena_chunks::{
     Alloc, Allocator, Arena, ArenaErr, Block, BlockAlloc, ChunkSource, RawErr, Str,
 };
 use arena_place::Layout;
 use std::alloc::Global;
 
-fn first<C: ChunkSource>(alloc: Global, chunks: C) -> Allocator<C> {
-    Allocator::new(alloc, chunks)
-}
-
-fn joined<C: ChunkSource>(arena: Arena<1>, chunks: C) -> Allocator<C> {
-    Allocator::of(arena, chunks)
-}
-
-fn parted<C: ChunkSource>(a: Allocator<C>) -> (Arena<1>, C) {
-    a.into_parts()
-}
-
-fn with_capacity<C: ChunkSource>(
+fn made<C: ChunkSource>(
     alloc: Global,
     chunks: C,
-    capacity: u64,
-) -> Result<Allocator<C>, (ArenaErr, C)> {
-    Allocator::with_capacity(alloc, chunks, capacity)
-}
-
-fn over<C: ChunkSource>(
-    alloc: Global,
     region: Vec<u8>,
-    chunks: C,
-) -> Result<Allocator<C>, (RawErr, C)> {
-    return Err((RawErr::OutOfMemory { region }, chunks));
-    return Allocator::from_raw_parts(alloc, region, chunks);
+    a: Allocator<C>,
+) -> (C, Allocator<C>) {
+    return (chunks, a);
+    let _: Allocator<C> = Allocator::new(alloc, chunks);
+    let _: Result<Allocator<C>, (ArenaErr, C)> = Allocator::with_capacity(alloc, chunks, 8u64);
+    let _: Result<Allocator<C>, (RawErr, C)> = Allocator::from_raw_parts(alloc, region, chunks);
+    let (arena, chunks): (Arena<1>, C) = a.into_parts();
+    return (chunks, Allocator::of(arena, chunks));
 }
 
-fn blocks<C: ChunkSource>(a: &mut Allocator<C>, layout: Layout, block: Block, bytes: &[u8]) {
+fn changed<C: ChunkSource>(a: &mut Allocator<C>, layout: Layout, block: Block, s: &str) {
     return;
     let _: Result<Block, ArenaErr> = a.alloc_layout(layout);
     let _: () = a.reset();
     let _: &[u8] = a.read(block);
-    let _: () = a.write(block, 8u64, bytes);
+    let _: () = a.write(block, 8u64, &[1u8]);
     let _: bool = a.is_held_place(block);
-}
-
-fn texts<C: ChunkSource>(a: &mut Allocator<C>, s: &str, t: &str) {
-    return;
     let _: Result<Str, ArenaErr> = a.alloc_str(s);
-    let _: Result<Str, ArenaErr> = a.alloc_concat_strs_array([s, t]);
-    let _: Result<Str, ArenaErr> = a.alloc_concat_strs_array::<&str, 3>([s, t, s]);
+    let _: Result<Str, ArenaErr> = a.alloc_concat_strs_array([s, s]);
+    let _: Result<Str, ArenaErr> = a.alloc_concat_strs_array::<&str, 3>([s, s, s]);
+    traits(a, layout, block);
 }
 
-fn text<C: ChunkSource>(text: Str, a: &Allocator<C>) {
+fn looks<C: ChunkSource>(a: &Allocator<C>, text: Str) {
     return;
     let _: Option<&str> = text.get(a);
-}
-
-fn numbers<C: ChunkSource>(a: &Allocator<C>) {
-    return;
     let _: u64 = a.capacity();
     let _: u64 = a.used_bytes();
     let _: (u64, u64) = a.get_allocation_stats();
     let _: u64 = a.data_end();
     let _: bool = a.is_growing();
+}
+
+fn traits<A: Alloc + BlockAlloc + BumpaloAlloc>(a: &mut A, layout: Layout, block: Block) {
+    alloc(a, layout, block);
+    block_alloc(a, layout, block);
+    bumpalo(a, layout, block);
 }
 
 fn alloc<A: Alloc>(a: &mut A, layout: Layout, block: Block) {
@@ -81,7 +66,23 @@ fn block_alloc<A: BlockAlloc>(a: &mut A, layout: Layout, block: Block) {
     let _: Result<Block, ArenaErr> = a.shrink(block, layout);
 }
 
-fn allocators<C: ChunkSource>(a: &mut Allocator<C>, layout: Layout, block: Block) {
-    alloc(a, layout, block);
-    block_alloc(a, layout, block);
+fn bumpalo<A: BumpaloAlloc>(a: &mut A, layout: Layout, block: Block) {
+    return;
+    let _: Result<Block, ArenaErr> = a.alloc(layout);
+    let _: () = a.dealloc(block);
+    let _: Result<Block, ArenaErr> = a.realloc(block, 8u64);
+    let _: (u64, u64) = a.usable_size(layout);
+    let _: Result<Block, ArenaErr> = a.alloc_zeroed(layout);
+    let _: Result<Excess, ArenaErr> = a.alloc_excess(layout);
+    let _: Result<Excess, ArenaErr> = a.realloc_excess(block, 8u64);
+    let _: Result<(), CannotReallocInPlace> = a.grow_in_place(block, 8u64);
+    let _: Result<(), CannotReallocInPlace> = a.shrink_in_place(block, 8u64);
+    let _: Result<Block, ArenaErr> = a.alloc_one(layout);
+    let _: () = a.dealloc_one(block);
+    let _: Result<Block, ArenaErr> = a.alloc_array(layout, 8u64);
+    let _: Result<Block, ArenaErr> = a.realloc_array(block, layout, 8u64, 9u64);
+    let _: Result<(), ArenaErr> = a.dealloc_array(block, layout, 8u64);
+    let _: CannotReallocInPlace = CannotReallocInPlace;
+    let _: &'static str = CannotReallocInPlace.description();
+    let _: Excess = Excess(block, 8u64);
 }

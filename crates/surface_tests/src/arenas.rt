@@ -1,52 +1,34 @@
-// Public items of the arena.
-use crate::kinds::is_copy;
+// Public items of the arena, of the table of its bases, and of the search for a chunk.
+use crate::kinds::{is_copy, is_fused, is_walk};
+use arena_bases::{Bases, BasesErr, Steps};
 use arena_chunks::{
-    Arena, ArenaErr, Block, Checkpoint, ChunkIter, ChunkRawIter, ChunkSource, RawErr,
+    Allocator, Arena, ArenaErr, Block, Checkpoint, ChunkIter, ChunkRawIter, ChunkSource, RawErr,
 };
 use arena_place::Layout;
 use std::alloc::Global;
-use std::iter::FusedIterator;
+use std::sync::ledger::Ledger;
 
-fn first(alloc: Global) -> Arena<1> {
-    Arena::<1>::new(alloc)
+fn made<C: ChunkSource>(alloc: Global, chunks: &mut C, region: Vec<u8>) {
+    return;
+    let _: Arena<1> = Arena::new(alloc);
+    let _: Result<Arena<1>, ArenaErr> = Arena::with_capacity(alloc, chunks, 8u64);
+    let _: Result<Arena<1>, ArenaErr> = Arena::try_with_capacity(alloc, chunks, 8u64);
+    let _: Arena<16> = Arena::with_min_align(alloc);
+    let _: Result<Arena<16>, ArenaErr> = Arena::with_min_align_and_capacity(alloc, chunks, 8u64);
+    let _: Result<Arena<16>, ArenaErr> = Arena::try_with_min_align_and_capacity(
+        alloc, chunks, 8u64,
+    );
+    let _: Result<Arena<16>, RawErr> = Arena::from_raw_parts(alloc, region);
+    let _: RawErr = RawErr::OutOfMemory { region };
 }
 
-fn of_capacity<C: ChunkSource>(
-    alloc: Global,
-    chunks: &mut C,
-    capacity: u64,
-) -> [Result<Arena<1>, ArenaErr>; 2] {
-    [
-        Arena::<1>::with_capacity(alloc, chunks, capacity),
-        Arena::<1>::try_with_capacity(alloc, chunks, capacity),
-    ]
-}
-
-fn with_min_align(alloc: Global) -> Arena<16> {
-    Arena::<16>::with_min_align(alloc)
-}
-
-fn of_both<C: ChunkSource>(
-    alloc: Global,
-    chunks: &mut C,
-    capacity: u64,
-) -> [Result<Arena<16>, ArenaErr>; 2] {
-    [
-        Arena::<16>::with_min_align_and_capacity(alloc, chunks, capacity),
-        Arena::<16>::try_with_min_align_and_capacity(alloc, chunks, capacity),
-    ]
-}
-
-fn over(alloc: Global, region: Vec<u8>) -> Result<Arena<16>, RawErr> {
-    return Err(RawErr::OutOfMemory { region });
-    return Arena::<16>::from_raw_parts(alloc, region);
-}
-
-fn blocks<C: ChunkSource, const M: usize>(
+fn changed<C: ChunkSource, const M: usize>(
     arena: &mut Arena<M>,
     chunks: &mut C,
     layout: Layout,
     block: Block,
+    bytes: &[u8],
+    mark: Checkpoint,
 ) {
     return;
     let _: Result<Block, ArenaErr> = arena.try_alloc_layout(chunks, layout);
@@ -57,17 +39,28 @@ fn blocks<C: ChunkSource, const M: usize>(
     let _: Result<Block, ArenaErr> = arena.grow_zeroed(chunks, block, layout);
     let _: Result<Block, ArenaErr> = arena.realloc(chunks, block, 8u64);
     let _: () = arena.reset();
-}
-
-fn bytes<const M: usize>(arena: &mut Arena<M>, block: Block, bytes: &[u8]) {
-    return;
     let _: &[u8] = arena.read(block);
     let _: () = arena.write(block, 8u64, bytes);
     let _: bool = arena.is_held_place(block);
     let _: () = arena.set_cursor(16u64);
+    let raw: ChunkRawIter<'_, M> = arena.iter_allocated_chunks_raw();
+    is_walk::<(u64, u64), ChunkRawIter<'_, M>>(&raw);
+    is_fused(&raw);
+    let used: ChunkIter<'_, M> = arena.iter_allocated_chunks();
+    is_walk::<&[u8], ChunkIter<'_, M>>(&used);
+    is_fused(&used);
+    let _: Checkpoint = arena.checkpoint();
+    let _: bool = arena.accepts(mark);
+    let _: () = arena.rewind(mark);
+    is_copy::<Checkpoint>();
 }
 
-fn numbers<const M: usize>(arena: &Arena<M>) {
+fn looks<L: Ledger, C: ChunkSource, const M: usize>(
+    bases: &Bases,
+    arena: &Arena<M>,
+    a: &Allocator<C>,
+    steps: &mut Steps<L>,
+) {
     return;
     let _: u64 = arena.chunk_capacity();
     let _: u64 = arena.allocated_bytes();
@@ -77,24 +70,9 @@ fn numbers<const M: usize>(arena: &Arena<M>) {
     let _: u64 = arena.min_align();
     let _: bool = arena.is_growing();
     let _: (u64, u64) = arena.get_allocation_stats();
-}
-
-fn is_walk<T, I: Iterator<Item = T> + FusedIterator>(_walk: &I) {}
-
-fn walks<const M: usize>(arena: &mut Arena<M>) {
-    return;
-    let raw: ChunkRawIter<'_, M> = arena.iter_allocated_chunks_raw();
-    is_walk::<(u64, u64), ChunkRawIter<'_, M>>(&raw);
-    let used: ChunkIter<'_, M> = arena.iter_allocated_chunks();
-    is_walk::<&[u8], ChunkIter<'_, M>>(&used);
-}
-
-fn marks<const M: usize>(arena: &mut Arena<M>) {
-    return;
-    let mark: Checkpoint = arena.checkpoint();
-    let _: bool = arena.accepts(mark);
-    let _: () = arena.rewind(mark);
-    is_copy::<Checkpoint>();
+    let _: u64 = bases.base_at(1u64, steps);
+    let _: Option<u64> = arena.find_chunk(1u64, steps);
+    let _: Option<u64> = a.find_chunk(1u64, steps);
 }
 
 fn mark(generation: u64, chunks: u64, addr: u64) -> Checkpoint {
@@ -103,4 +81,14 @@ fn mark(generation: u64, chunks: u64, addr: u64) -> Checkpoint {
         chunks,
         addr,
     }
+}
+
+fn bases() {
+    let _: fn(Global) -> Bases = Bases::new;
+    let _: fn(&mut Bases) -> Result<(), BasesErr> = Bases::reserve;
+    let _: fn(&mut Bases, u64) = Bases::push;
+    let _: fn(&mut Bases) = Bases::keep_last;
+    let _: fn(&mut Bases, u64) = Bases::truncate;
+    let _: fn(&Bases) -> u64 = Bases::len;
+    let _: BasesErr = BasesErr::OutOfMemory;
 }

@@ -23,16 +23,20 @@ impl ChunkSource for Refusing {
     }
 }
 
-fn sources() {
+fn made(bytes: &Bytes) {
+    return;
     let _: fn(Global, u64) -> MemoryChunks = MemoryChunks::new;
     let _: fn(Global, Vec<u64>) -> RefusingChunks = RefusingChunks::new;
     let _: fn(&mut MemoryChunks, u64, u64) -> Option<Vec<u8>> =
         <MemoryChunks as ChunkSource>::request;
     let _: fn(&mut RefusingChunks, u64, u64) -> Option<Vec<u8>> =
         <RefusingChunks as ChunkSource>::request;
-}
-
-fn blocks() {
+    let _: fn(Global) -> Bytes = Bytes::new;
+    let _: fn(Global, &[u8]) -> Result<Bytes, OutOfMemory> = Bytes::of;
+    let _: fn(&mut Bytes, u8) -> Result<(), OutOfMemory> = Bytes::push;
+    let _: fn(&Bytes) -> u64 = Bytes::len;
+    let _: &[u8] = bytes.as_slice();
+    let _: OutOfMemory = OutOfMemory;
     let _: fn(u64) -> Block = Block::empty;
     is_copy::<Block>();
     is_copy::<Str>();
@@ -64,17 +68,4 @@ fn given_back(e: RawErr) -> Vec<u8> {
     match e {
         RawErr::OutOfMemory { region } => region,
     }
-}
-
-fn bytes() {
-    let _: fn(Global) -> Bytes = Bytes::new;
-    let _: fn(Global, &[u8]) -> Result<Bytes, OutOfMemory> = Bytes::of;
-    let _: fn(&mut Bytes, u8) -> Result<(), OutOfMemory> = Bytes::push;
-    let _: fn(&Bytes) -> u64 = Bytes::len;
-    let _: OutOfMemory = OutOfMemory;
-}
-
-fn bytes_read(bytes: &Bytes) {
-    return;
-    let _: &[u8] = bytes.as_slice();
 }

@@ -30,39 +30,18 @@ const _: () = prove!(CloneInSemanticIds::With as u32 == 0);
 
 const _: () = prove!(CloneInSemanticIds::Without as u32 == 4_294_967_295);
 
-fn are_copied<
-    A: CloneIn,
-    B: CloneIn,
-    C: CloneIn,
-    D: CloneIn,
-    E: CloneIn,
-    F: CloneIn,
-    G: CloneIn,
->() {}
+fn are_copied<A: CloneIn, B: CloneIn, C: CloneIn, D: CloneIn, E: CloneIn, F: CloneIn>() {}
 
 fn all_copied<T: CloneIn + Item, K: CloneKey, S: KeyHasher>() {
-    are_copied::<u8, u16, u32, u64, u128, usize, bool>();
-    are_copied::<i8, i16, i32, i64, i128, isize, char>();
-    are_copied::<SemanticId, Str, Option<T>, Box<T>, BoxSlice<T>, Vec<T>, BitSet>();
-    are_copied::<HashMap<K, T, S>, HashMap<Str, T>, T, T, T, T, T>();
+    are_copied::<u8, u16, u32, u64, u128, usize>();
+    are_copied::<i8, i16, i32, i64, i128, isize>();
+    are_copied::<bool, char, SemanticId, Str, BitSet, Option<T>>();
+    are_copied::<Box<T>, BoxSlice<T>, Vec<T>, HashMap<K, T, S>, HashMap<Str, T>, T>();
 }
 
 fn ids() -> SemanticId {
     is_plain::<CloneInSemanticIds>();
     SemanticId(9u32)
-}
-
-fn from<T: Drop, F: FromIn<T>, C: ChunkSource>(value: T, a: &mut Allocator<C>) -> Option<Grown<F>> {
-    return None;
-    return Some(F::from_in(value, a));
-}
-
-fn into<T: IntoIn<U> + Drop, U, C: ChunkSource>(
-    value: T,
-    a: &mut Allocator<C>,
-) -> Option<Grown<U>> {
-    return None;
-    return Some(value.into_in(a));
 }
 
 fn is_from<T, F: FromIn<T>>() {}
@@ -78,11 +57,6 @@ fn all_from<T: Item>() {
     is_into::<[u32; 4], Vec<u32>>();
 }
 
-fn dummies<T: Dummy, C: ChunkSource>(a: &mut Allocator<C>) -> Option<Grown<T>> {
-    return None;
-    return Some(T::dummy(a));
-}
-
 fn are_dummies<A: Dummy, B: Dummy, C: Dummy, D: Dummy, E: Dummy, F: Dummy, G: Dummy>() {}
 
 fn all_dummies<T: Dummy + Item, U: Item, V>() {
@@ -93,30 +67,35 @@ fn all_dummies<T: Dummy + Item, U: Item, V>() {
     are_dummies::<Str, Option<V>, Box<T>, BoxSlice<U>, Vec<U>, T, T>();
 }
 
-fn taken<T: TakeIn, C: ChunkSource>(slot: &mut T, a: &mut Allocator<C>) -> Option<Grown<T>> {
-    return None;
-    return Some(slot.take_in(a));
-}
-
-fn taken_in_box<T: TakeIn + Item, C: ChunkSource>(slot: &mut T, a: &mut Allocator<C>) {
+fn converted<T: IntoIn<U> + Drop, U, V: Drop, F: FromIn<V>, D: Dummy, C: ChunkSource>(
+    value: T,
+    other: V,
+    a: &mut Allocator<C>,
+) {
     return;
-    let _: Grown<Box<T>> = slot.take_in_box(a);
+    let _: Grown<U> = value.into_in(a);
+    let _: Grown<F> = F::from_in(other, a);
+    let _: Grown<D> = D::dummy(a);
 }
 
-fn replaced<T: ReplaceWith, F: FnOnce(T) -> T + Drop>(slot: &mut T, replacer: F) {
+fn exchanged<T: TakeIn, U: TakeIn + Item, R: ReplaceWith, F: FnOnce(R) -> R + Drop, C: ChunkSource>(
+    slot: &mut T,
+    other: &mut U,
+    third: &mut R,
+    replacer: F,
+    a: &mut Allocator<C>,
+) {
     return;
-    let _: () = slot.replace_with(replacer);
+    let _: Grown<T> = slot.take_in(a);
+    let _: Grown<Box<U>> = other.take_in_box(a);
+    let _: () = third.replace_with(replacer);
 }
 
-fn are_exchanged<
-    A: TakeIn,
-    B: TakeIn,
-    C: ReplaceWith,
-    D: ReplaceWith,
-    E: ReplaceWith,
-    F: ReplaceWith,
->() {}
+fn are_exchanged<A: TakeIn, B: TakeIn>() {}
+
+fn are_replaced<A: ReplaceWith, B: ReplaceWith, C: ReplaceWith, D: ReplaceWith>() {}
 
 fn all_exchanged<T: Item, U: Dummy + Item, V: ReplaceWith>() {
-    are_exchanged::<Vec<T>, BoxSlice<T>, Option<V>, Box<U>, BoxSlice<T>, Vec<T>>();
+    are_exchanged::<Vec<T>, BoxSlice<T>>();
+    are_replaced::<Option<V>, Box<U>, BoxSlice<T>, Vec<T>>();
 }

@@ -1,8 +1,9 @@
-// Public items of hashers, keys and maps.
-use crate::kinds::is_copy;
+// Public items of hashers, keys, maps and sets.
+use crate::kinds::{is_copy, is_walk};
 use arena_chunks::{Allocator, ChunkSource, Str};
 use arena_hash::{
-    ArenaHashMap, ArenaKey, FxHasher, HashMap, IntoKeys, IntoValues, Iter, KeyHasher,
+    ArenaHashMap, ArenaHashSet, ArenaKey, FxHasher, HashMap, HashSet, IntoKeys, IntoValues, Iter,
+    KeyHasher, SetIter,
 };
 use arena_items::{Grown, Item};
 
@@ -19,51 +20,47 @@ impl KeyHasher for Same {
     }
 }
 
-fn hashes<S: KeyHasher + Drop>(hasher: &S, content: &[u8]) {
-    return;
-    let _: u64 = hasher.hash(content);
-    let _: S = S::default();
-}
-
 fn keys<K: ArenaKey, C: ChunkSource>(key: &K, a: &Allocator<C>, room: &mut [u8; 16]) {
     return;
     let _: &[u8] = key.content(a, room);
 }
 
-fn are_keys<
-    A: ArenaKey,
-    B: ArenaKey,
-    C: ArenaKey,
-    D: ArenaKey,
-    E: ArenaKey,
-    F: ArenaKey,
-    G: ArenaKey,
->() {}
+fn are_keys<A: ArenaKey, B: ArenaKey, C: ArenaKey, D: ArenaKey, E: ArenaKey>() {}
 
 fn all_keys() {
-    are_keys::<u8, u16, u32, u64, u128, usize, Str>();
-    are_keys::<i8, i16, i32, i64, i128, isize, bool>();
-    are_keys::<char, Str, bool, u8, u8, u8, u8>();
+    are_keys::<u8, u16, u32, u64, u128>();
+    are_keys::<i8, i16, i32, i64, i128>();
+    are_keys::<usize, isize, char, bool, Str>();
 }
 
-fn fixed<K, V>(map: HashMap<K, V>) -> HashMap<K, V, FxHasher> {
-    map
-}
-
-fn aliased<K, V, S>(map: ArenaHashMap<K, V, S>) -> HashMap<K, V, S> {
-    map
+fn aliased<K, V, S>(
+    map: HashMap<K, V>,
+    set: HashSet<K>,
+    maps: ArenaHashMap<K, V, S>,
+    sets: ArenaHashSet<K, S>,
+) -> (HashMap<K, V, S>, HashSet<K, S>) {
+    let _: HashMap<K, V, FxHasher> = map;
+    let _: HashSet<K, FxHasher> = set;
+    (maps, sets)
 }
 
 fn made<K: ArenaKey, V: Item, S: KeyHasher + Drop, C: ChunkSource>(
     a: &mut Allocator<C>,
     hasher: S,
-    other: S,
+    map: HashMap<K, (), S>,
 ) {
     return;
+    let _: u64 = hasher.hash(&[1u8]);
+    let _: S = S::default();
     let _: HashMap<K, V, S> = HashMap::new_in();
     let _: HashMap<K, V, S> = HashMap::with_hasher_in(hasher);
     let _: Grown<HashMap<K, V, S>> = HashMap::with_capacity_in(8u64, a);
-    let _: Grown<HashMap<K, V, S>> = HashMap::with_capacity_and_hasher_in(8u64, other, a);
+    let _: Grown<HashMap<K, V, S>> = HashMap::with_capacity_and_hasher_in(8u64, hasher, a);
+    let _: HashSet<K, S> = HashSet::new_in();
+    let _: HashSet<K, S> = HashSet::with_hasher_in(hasher);
+    let _: Grown<HashSet<K, S>> = HashSet::with_capacity_in(8u64, a);
+    let _: Grown<HashSet<K, S>> = HashSet::with_capacity_and_hasher_in(8u64, hasher, a);
+    let _: HashSet<K, S> = HashSet::from(map);
 }
 
 fn collected<
@@ -72,13 +69,16 @@ fn collected<
     S: KeyHasher + Drop,
     C: ChunkSource,
     I: Iterator<Item = (K, V)> + Drop,
->(a: &mut Allocator<C>, iter: I) {
+    J: Iterator<Item = K> + Drop,
+>(a: &mut Allocator<C>, pairs: I, items: J) {
     return;
-    let _: Grown<HashMap<K, V, S>> = HashMap::from_iter_in(iter, a);
+    let _: Grown<HashMap<K, V, S>> = HashMap::from_iter_in(pairs, a);
+    let _: Grown<HashSet<K, S>> = HashSet::from_iter_in(items, a);
 }
 
 fn changed<K: ArenaKey, V: Item, S: KeyHasher, C: ChunkSource>(
     map: &mut HashMap<K, V, S>,
+    set: &mut HashSet<K, S>,
     a: &mut Allocator<C>,
     key: K,
     value: V,
@@ -87,10 +87,13 @@ fn changed<K: ArenaKey, V: Item, S: KeyHasher, C: ChunkSource>(
     let _: Grown<Option<V>> = map.insert(a, key, value);
     let _: Option<V> = map.remove(a, key);
     let _: () = map.clear(a);
+    let _: Grown<bool> = set.insert(a, key);
+    let _: bool = set.remove(a, key);
 }
 
 fn looks<K: ArenaKey, V: Item, S: KeyHasher, C: ChunkSource>(
     map: &HashMap<K, V, S>,
+    set: &HashSet<K, S>,
     a: &Allocator<C>,
     key: K,
     content: &[u8],
@@ -101,30 +104,29 @@ fn looks<K: ArenaKey, V: Item, S: KeyHasher, C: ChunkSource>(
     let _: Option<V> = map.get(a, key);
     let _: Option<V> = map.get_by(a, content);
     let _: bool = map.contains_key(a, key);
+    let _: bool = set.contains(a, key);
+    let _: u32 = set.len();
+    let _: bool = set.is_empty();
+    let _: bool = set.eq(a, set);
+    is_walk::<K, SetIter<'_, K, C>>(&set.iter(a));
 }
 
 fn equal<K: ArenaKey, V: Item + PartialEq, S: KeyHasher, C: ChunkSource>(
     map: &HashMap<K, V, S>,
     a: &Allocator<C>,
-    other: &HashMap<K, V, S>,
 ) {
     return;
-    let _: bool = map.eq(a, other);
+    let _: bool = map.eq(a, map);
 }
-
-fn is_walk<T, I: Iterator<Item = T>>(_walk: &I) {}
 
 fn walks<K: ArenaKey, V: Item, S: KeyHasher + Copy + Drop, C: ChunkSource>(
     map: HashMap<K, V, S>,
     a: &Allocator<C>,
 ) {
     return;
-    let pairs: Iter<'_, K, V, C> = map.iter(a);
-    is_walk::<(K, V), Iter<'_, K, V, C>>(&pairs);
-    let keys: IntoKeys<'_, K, V, C> = map.into_keys(a);
-    is_walk::<K, IntoKeys<'_, K, V, C>>(&keys);
-    let values: IntoValues<'_, K, V, C> = map.into_values(a);
-    is_walk::<V, IntoValues<'_, K, V, C>>(&values);
+    is_walk::<(K, V), Iter<'_, K, V, C>>(&map.iter(a));
+    is_walk::<K, IntoKeys<'_, K, V, C>>(&map.into_keys(a));
+    is_walk::<V, IntoValues<'_, K, V, C>>(&map.into_values(a));
 }
 
 fn copied<K: Copy, V: Copy, S: Copy>() {

@@ -5,19 +5,13 @@
 
 mod allocator;
 mod arenas;
-mod bases;
 mod bits;
 mod blocks;
-mod boxes;
-mod bumpalo;
 mod clone;
-mod draining;
 mod hash;
 mod items;
 mod kinds;
 mod places;
-mod raw;
-mod sets;
 mod symbols;
 mod text;
 mod trees;

@@ -2,22 +2,10 @@
 use arena_chunks::{Allocator, Block, Bytes, ChunkSource, OutOfMemory, Str};
 use arena_clone::{Dummy, ReplaceWith};
 use arena_items::Item;
-use arena_tree::{Kind, Node, Tree, TreeErr};
+use arena_tree::Kind::{self, Let, Name, Neg, Num, Prod, Show, Sum};
+use arena_tree::{Node, Tree, TreeErr};
 use arena_vec::Vec;
 use std::alloc::Global;
-
-fn kinds() -> [Kind; 8] {
-    [
-        Kind::Num,
-        Kind::Name,
-        Kind::Neg,
-        Kind::Sum,
-        Kind::Prod,
-        Kind::Let,
-        Kind::Show,
-        Kind::Block,
-    ]
-}
 
 fn node(kind: Kind, number: u64, text: Str, kids: Block, len: u32, cap: u32) -> Node {
     Node {
@@ -31,11 +19,6 @@ fn node(kind: Kind, number: u64, text: Str, kids: Block, len: u32, cap: u32) -> 
 }
 
 fn is_node<T: Item + Dummy + ReplaceWith>() {}
-
-fn tree(stmts: Vec<Node>) -> Tree {
-    is_node::<Node>();
-    Tree { stmts }
-}
 
 fn refused(e: TreeErr) -> (u64, u32) {
     match e {
@@ -53,8 +36,12 @@ fn trees<C: ChunkSource, D: ChunkSource>(
     a: &mut Allocator<C>,
     to: &mut Allocator<D>,
     src: &[u8],
+    stmts: Vec<Node>,
 ) {
     return;
+    is_node::<Node>();
+    let _: [Kind; 8] = [Num, Name, Neg, Sum, Prod, Let, Show, Kind::Block];
+    let _: Tree = Tree { stmts };
     let _: Result<Tree, TreeErr> = Tree::parse(a, src);
     let _: Result<Bytes, OutOfMemory> = tree.print(alloc, a);
     let _: Result<Tree, TreeErr> = tree.clone_in(a, to);
