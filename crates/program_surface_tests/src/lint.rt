@@ -19,25 +19,19 @@ fn finding(kind: FindKind, name: Bytes) -> Finding {
     Finding { kind, name }
 }
 
-fn found(findings: &Findings) {
+fn findings(findings: &Findings) {
+    is_error::<LintErr>();
+    let _: fn(&Findings) -> u64 = Findings::len;
     return;
     let _: &[Finding] = findings.as_slice();
-}
-
-fn findings() {
-    let _: fn(&Findings) -> u64 = Findings::len;
-    is_error::<LintErr>();
 }
 
 fn reported(report: FileReport) -> (Option<Findings>, u64) {
     match report {
         FileReport::Checked(found) => (Some(found), 0),
-        FileReport::Syntax { at } => (None, at),
-        FileReport::TooDeep { at } => (None, at),
-        FileReport::NumberTooBig { at } => (None, at),
-        FileReport::Full => (None, 0),
-        FileReport::Refused => (None, 0),
-        FileReport::OutOfMemory => (None, 0),
+        FileReport::Syntax { at } | FileReport::TooDeep { at } | FileReport::NumberTooBig { at } =>
+            (None, at),
+        FileReport::Full | FileReport::Refused | FileReport::OutOfMemory => (None, 0),
     }
 }
 
@@ -45,18 +39,10 @@ fn linted<C: ChunkSource>(report: FileReport, starved: Option<Starved<C>>) -> Li
     Linted { report, starved }
 }
 
-fn one<C: ChunkSource>(alloc: Global, a: &mut Allocator<C>, src: &[u8]) {
+fn alone<C: ChunkSource>(alloc: Global, a: &mut Allocator<C>, src: &[u8]) {
     return;
     let _: FileReport = lint_one(alloc, a, src);
-}
-
-fn text<C: ChunkSource>(
-    alloc: Global,
-    a: &mut Allocator<C>,
-    src: &[u8],
-) -> Result<(Vec<u8>, bool), FileReport> {
-    return Err(FileReport::OutOfMemory);
-    return lint_text(alloc, a, src, 0);
+    let _: Result<(Vec<u8>, bool), FileReport> = lint_text(alloc, a, src, 0);
 }
 
 fn work<'a>() -> Linting<'a> {
@@ -69,17 +55,12 @@ fn refused(e: LintErr) {
     }
 }
 
-fn all<
-    R: Threads + Wait + Sync,
-    K: ChunkMaker + Drop + Send,
-    L: PoolName + Send + Sync,
-    G: Gate + Sync,
->(
-    rt: &R,
+fn all<K: ChunkMaker + Drop + Send, L: PoolName + Send + Sync>(
+    rt: &(impl Threads + Wait + Sync),
     alloc: Global,
     pool: &AllocatorPool<K, L>,
     workers: u32,
-    gate: &G,
+    gate: &(impl Gate + Sync),
     sources: &[Bytes],
 ) -> Result<Vec<Linted<K::Chunks>>, LintErr> {
     return Err(LintErr::OutOfMemory);

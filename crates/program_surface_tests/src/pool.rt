@@ -41,31 +41,17 @@ fn counted(counts: Counts) -> (u64, u64, u64, u64) {
     (counts.made, counts.stored, counts.lent, counts.given_up)
 }
 
-fn book<K: ChunkMaker + Drop>(alloc: Global, maker: K) -> Result<Book<K>, OutOfMemory> {
-    Book::new(alloc, 1u32, maker)
-}
-
-fn book_with_limit<K: ChunkMaker + Drop>(alloc: Global, maker: K) -> Result<Book<K>, OutOfMemory> {
-    Book::new_with_limit(alloc, 1u32, 2u64, maker)
-}
-
-fn fixed_book<K: ChunkMaker + Drop>(alloc: Global, maker: K) -> Result<Book<K>, OutOfMemory> {
-    Book::new_fixed(alloc, 1u32, 48u64, maker)
-}
-
-fn taken<K: ChunkMaker>(
-    book: &mut Book<K>,
-) -> Result<(Allocator<K::Chunks>, Option<u32>), PoolErr> {
-    book.take()
-}
-
-fn stored<K: ChunkMaker>(book: &mut Book<K>, a: Allocator<K::Chunks>, id: Option<u32>) {
+fn books<K: ChunkMaker + Drop>(alloc: Global, maker: K) {
     return;
+    let _: Result<Book<K>, OutOfMemory> = Book::new(alloc, 1u32, maker);
+    let _: Result<Book<K>, OutOfMemory> = Book::new_with_limit(alloc, 1u32, 2u64, maker);
+    let _: Result<Book<K>, OutOfMemory> = Book::new_fixed(alloc, 1u32, 48u64, maker);
+}
+
+fn events<K: ChunkMaker>(book: &mut Book<K>, a: Allocator<K::Chunks>, id: Option<u32>) {
+    return;
+    let _: Result<(Allocator<K::Chunks>, Option<u32>), PoolErr> = book.take();
     let _: () = book.store(a, id);
-}
-
-fn numbers<K: ChunkMaker>(book: &mut Book<K>) {
-    return;
     let _: () = book.forget();
     let _: Option<u64> = book.limit();
     let _: Counts = book.counts();
@@ -102,88 +88,44 @@ fn pools<K: ChunkMaker + Drop, L: PoolName>(alloc: Global, maker: K, blank: Blan
     );
 }
 
-fn guarded<'a, K: ChunkMaker, L: PoolName, R: Wait>(
-    pool: &'a AllocatorPool<K, L>,
-    rt: &R,
-) -> Result<AllocatorGuard<'a, K, L>, OutOfMemory> {
-    pool.get(rt)
+fn borrows<'a, K: ChunkMaker, L: PoolName, R: Wait>(pool: &'a AllocatorPool<K, L>, rt: &R) {
+    return;
+    let _: Result<AllocatorGuard<'a, K, L>, OutOfMemory> = pool.get(rt);
+    let _: Result<AllocatorGuard<'a, K, L>, OutOfMemory> = pool.get_wait(rt);
+    let _: Counts = pool.counts(rt);
 }
 
-fn waited<'a, K: ChunkMaker, L: PoolName, R: Wait>(
-    pool: &'a AllocatorPool<K, L>,
-    rt: &R,
-) -> Result<AllocatorGuard<'a, K, L>, OutOfMemory> {
-    pool.get_wait(rt)
-}
-
-fn counts<K: ChunkMaker, L: PoolName, R: Wait>(pool: &AllocatorPool<K, L>, rt: &R) -> Counts {
-    pool.counts(rt)
-}
-
-fn looks<'x, 'a, K: ChunkMaker, L: PoolName>(
-    guard: &'x mut AllocatorGuard<'a, K, L>,
-) -> &'x mut Allocator<K::Chunks> {
+fn looks<'x, 'a, K: ChunkMaker, L: PoolName>(guard: &'x mut AllocatorGuard<'a, K, L>) {
+    return;
     let _: Option<FixedSizeAllocatorMetadata> = guard.fixed_size_metadata();
-    guard.parts_mut()
-}
-
-fn lent<'x, 'a, K: ChunkMaker, L: PoolName>(
-    guard: &'x mut AllocatorGuard<'a, K, L>,
-) -> &'x mut Allocator<K::Chunks> {
-    guard.allocator()
+    let _: &'x mut Allocator<K::Chunks> = guard.parts_mut();
+    let _: &'x mut Allocator<K::Chunks> = guard.allocator();
 }
 
 fn metadata(id: u32) -> FixedSizeAllocatorMetadata {
     FixedSizeAllocatorMetadata { id }
 }
 
-fn given_up<K: ChunkMaker, L: PoolName, R: Wait>(
+fn given_back<K: ChunkMaker, L: PoolName, R: Wait>(
     guard: AllocatorGuard<'_, K, L>,
     rt: &R,
 ) -> Allocator<K::Chunks> {
-    guard.give_up(rt)
-}
-
-fn put_back<K: ChunkMaker, L: PoolName, R: Wait>(
-    guard: AllocatorGuard<'_, K, L>,
-    rt: &R,
-) -> Option<Allocator<K::Chunks>> {
-    return Some(guard.give_up(rt));
+    return guard.give_up(rt);
     let _: () = guard.put_back(rt);
 }
 
-fn from_standard<K: ChunkMaker, L: PoolName, R: Wait>(
-    pool: &StandardAllocatorPool<K, L>,
-    rt: &R,
-) -> Result<(Allocator<K::Chunks>, Loan<L>), OutOfMemory> {
-    pool.get(rt)
-}
-
-fn to_standard<K: ChunkMaker, L: PoolName, R: Wait>(
-    pool: &StandardAllocatorPool<K, L>,
-    rt: &R,
-    a: Allocator<K::Chunks>,
-    loan: Loan<L>,
-) -> Option<Allocator<K::Chunks>> {
+fn standard<K: ChunkMaker, L: PoolName, R: Wait>(pool: &StandardAllocatorPool<K, L>, rt: &R) {
+    return;
+    let lent: Result<(Allocator<K::Chunks>, Loan<L>), OutOfMemory> = pool.get(rt);
+    let (a, loan) = lent.unwrap();
     let _: () = pool.forget(rt, loan);
-    return Some(a);
     let _: () = pool.add(rt, a, loan);
 }
 
-fn from_fixed<K: ChunkMaker, L: PoolName, R: Wait>(
-    pool: &FixedSizeAllocatorPool<K, L>,
-    rt: &R,
-) -> Result<(Allocator<K::Chunks>, Loan<L>), OutOfMemory> {
-    pool.get(rt)
-}
-
-fn to_fixed<K: ChunkMaker, L: PoolName, R: Wait>(
-    pool: &FixedSizeAllocatorPool<K, L>,
-    rt: &R,
-    a: Allocator<K::Chunks>,
-    loan: Loan<L>,
-) -> Option<Allocator<K::Chunks>> {
+fn fixed<K: ChunkMaker, L: PoolName, R: Wait>(pool: &FixedSizeAllocatorPool<K, L>, rt: &R) {
+    return;
+    let lent: Result<(Allocator<K::Chunks>, Loan<L>), OutOfMemory> = pool.get(rt);
+    let (a, loan) = lent.unwrap();
     let _: () = pool.forget(rt, loan);
-    return Some(a);
     let _: () = pool.add(rt, a, loan);
 }

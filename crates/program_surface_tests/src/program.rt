@@ -9,23 +9,16 @@ use std::alloc::Global;
 use std::sync::Wait;
 use std::thread::Threads;
 
-fn whole<
-    C: ChunkSource,
-    I: Input,
-    O: Output,
-    R: Threads + Wait + Sync,
-    K: ChunkMaker + Drop + Send,
-    J: Job<K::Chunks> + Sync,
->(
-    rt: &R,
+fn whole<K: ChunkMaker + Drop + Send>(
+    rt: &(impl Threads + Wait + Sync),
     alloc: Global,
     words: &[Bytes],
     arena: &mut Arena<1>,
-    chunks: &mut C,
-    input: &mut I,
-    output: &mut O,
+    chunks: &mut impl ChunkSource,
+    input: &mut impl Input,
+    output: &mut impl Output,
     maker: K,
-    job: &J,
+    job: &(impl Job<K::Chunks> + Sync),
     starved: &mut Vec<(u32, Starved<K::Chunks>)>,
 ) -> Status {
     arena_main(

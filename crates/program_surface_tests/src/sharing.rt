@@ -19,21 +19,16 @@ fn refused(e: ClaimErr) {
     }
 }
 
-fn shared<C: ChunkSource + Drop>(
-    alloc: Global,
-    a: Allocator<C>,
-) -> Result<(Owner<C>, Owner<C>), ShareErr<C>> {
-    share(alloc, a)
-}
-
 fn handed_back<C: ChunkSource>(e: ShareErr<C>) -> Allocator<C> {
     match e {
         ShareErr::OutOfMemory { arena } => arena,
     }
 }
 
-fn looked<C: ChunkSource + Drop>(owner: &mut Owner<C>) -> bool {
-    owner.is_double_owned()
+fn owned<C: ChunkSource + Drop>(alloc: Global, a: Allocator<C>, owner: &mut Owner<C>) {
+    return;
+    let _: Result<(Owner<C>, Owner<C>), ShareErr<C>> = share(alloc, a);
+    let _: bool = owner.is_double_owned();
 }
 
 fn given_up<C: ChunkSource + Drop>(owner: Owner<C>) -> GaveUp<C> {

@@ -51,19 +51,13 @@ fn refused(e: ScriptsErr) {
     }
 }
 
-fn run<
-    R: Threads + Wait + Sync,
-    K: ChunkMaker + Drop + Send,
-    L: PoolName + Send + Sync,
-    G: Gate + Sync,
-    J: Job<K::Chunks> + Sync,
->(
-    rt: &R,
+fn run<K: ChunkMaker + Drop + Send, L: PoolName + Send + Sync>(
+    rt: &(impl Threads + Wait + Sync),
     alloc: Global,
     pool: &AllocatorPool<K, L>,
     workers: u32,
-    gate: &G,
-    job: &J,
+    gate: &(impl Gate + Sync),
+    job: &(impl Job<K::Chunks> + Sync),
     scripts: &[Script],
 ) -> Result<Vec<Served<K::Chunks>>, ScriptsErr> {
     return Err(ScriptsErr::OutOfMemory);
