@@ -1,7 +1,6 @@
 // Worked examples of the rules, and one call of each function that takes memory. Most are tables of calls (`steps`),
 // because a table costs almost nothing to prove.
 mod allocators;
-mod blocks;
 mod creation;
 mod growth;
 mod items;
@@ -36,7 +35,9 @@ fn layout(rt: &impl Abort, size: u64, align: u64) -> Layout
     Layout::new(size, align).expect(rt, "a layout")
 }
 
-fn ample(alloc: Global) -> Allocator<MemoryChunks> {
+type Memory = Allocator<MemoryChunks>;
+
+fn ample(alloc: Global) -> Memory {
     Allocator::new(alloc, MemoryChunks::new(alloc, 1 << 20))
 }
 
@@ -84,13 +85,7 @@ fn reads<C: ChunkSource>(
 }
 
 // Checks the bytes in use, and the counts of blocks that were placed and of blocks that were grown or shrunk.
-fn has<C: ChunkSource>(
-    rt: &impl Abort,
-    what: &'static str,
-    a: &Allocator<C>,
-    used: u64,
-    counts: (u64, u64),
-) {
+fn has(rt: &impl Abort, what: &'static str, a: &Memory, used: u64, counts: (u64, u64)) {
     let found = (a.used_bytes(), a.get_allocation_stats());
     same_at(rt, what, found, (used, counts));
 }
@@ -100,14 +95,9 @@ fn same<T: Copy + PartialEq + Debug>(rt: &impl Abort, found: T, wanted: T) {
 }
 
 // Fails the test if the two values differ. `at` names the case.
-fn same_at<A: Copy + Debug, T: Copy + PartialEq + Debug>(
-    rt: &impl Abort,
-    at: A,
-    found: T,
-    wanted: T,
-) {
-    if found != wanted {
-        panic!(rt; "{at:?}: {found:?} in place of {wanted:?}");
+fn same_at<A: Copy + Debug, T: Copy + PartialEq + Debug>(rt: &impl Abort, at: A, is: T, wanted: T) {
+    if is != wanted {
+        panic!(rt; "{at:?}: {is:?} in place of {wanted:?}");
     }
 }
 

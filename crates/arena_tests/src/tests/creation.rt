@@ -9,47 +9,39 @@ use arena_chunks::{Arena, ArenaErr, MemoryChunks};
 use std::alloc::Global;
 use std::process::Abort;
 
-// A capacity, the size of the first chunk of an arena of least alignment 1 or the number of refused requests, and all
-// requests.
-type Capacity = (u64, Result<u64, u32>, &'static [(u64, u64)]);
-
-// The size of a first chunk isn't halved, and capacities that no chunk can have fail without a request.
-const CAPACITIES: &[Capacity] = &[
-    (10, Ok(64), &[(64, 16)]),
-    (0, Ok(0), &[]),
-    (64, Ok(64), &[(64, 16)]),
-    (65, Ok(192), &[(192, 16)]),
-    (4032, Ok(4032), &[(4032, 16)]),
-    (4033, Ok(8128), &[(8128, 16)]),
-    (1 << 63, Err(0), &[]),
-    ((1 << 63) - 63, Err(0), &[]),
+// The numbers of the requests that are refused, a capacity, the size of the first chunk of an arena of least alignment 1
+// or the number of refused requests, and all requests. The size of a first chunk isn't halved, and capacities that no
+// chunk can have fail without a request.
+const CAPACITIES: &[(&[u64], u64, Result<u64, u32>, &[(u64, u64)])] = &[
+    (&[], 10, Ok(64), &[(64, 16)]),
+    (&[], 0, Ok(0), &[]),
+    (&[], 64, Ok(64), &[(64, 16)]),
+    (&[], 65, Ok(192), &[(192, 16)]),
+    (&[], 4032, Ok(4032), &[(4032, 16)]),
+    (&[], 4033, Ok(8128), &[(8128, 16)]),
+    (&[], 1 << 63, Err(0), &[]),
+    (&[], (1 << 63) - 63, Err(0), &[]),
+    (&[1], 10, Err(1), &[(64, 16)]),
+    (&[1], (1 << 63) - 64, Err(1), &[((1 << 63) - 64, 16)]),
 ];
-
-const REFUSED: &[Capacity] = &[
-    (10, Err(1), &[(64, 16)]),
-    ((1 << 63) - 64, Err(1), &[((1 << 63) - 64, 16)]),
-];
-
-// Checks the rows, each over a new source that refuses the requests with these numbers.
-fn answer(rt: &impl Abort, alloc: Global, refuse: &[u64], rows: &[Capacity]) {
-    for &(capacity, wanted, requests) in rows {
-        let mut chunks = refusing(alloc, refuse).expect(rt, "memory");
-        match (Arena::with_capacity(alloc, &mut chunks, capacity), wanted) {
-            (Ok(arena), Ok(size)) => {
-                same_at(rt, capacity, arena.allocated_bytes(), size);
-                must(rt, capacity, arena.is_growing());
-            }
-            (Err(e), Err(refused)) => same_at(rt, capacity, e, ArenaErr::AllocErr { refused }),
-            _ => must(rt, capacity, false),
-        }
-        same_at(rt, capacity, chunks.requests(), Some(requests));
-    }
-}
 
 #[test]
 fn arenas_of_a_capacity(rt: HostRuntime) {
-    answer(&rt, rt.alloc(), &[], CAPACITIES);
-    answer(&rt, rt.alloc(), &[1], REFUSED);
+    for &(refuse, capacity, wanted, requests) in CAPACITIES {
+        let mut chunks = refusing(rt.alloc(), refuse).expect(&rt, "memory");
+        match (
+            Arena::with_capacity(rt.alloc(), &mut chunks, capacity),
+            wanted,
+        ) {
+            (Ok(arena), Ok(size)) => {
+                same_at(&rt, capacity, arena.allocated_bytes(), size);
+                must(&rt, capacity, arena.is_growing());
+            }
+            (Err(e), Err(refused)) => same_at(&rt, capacity, e, ArenaErr::AllocErr { refused }),
+            _ => must(&rt, capacity, false),
+        }
+        same_at(&rt, capacity, chunks.requests(), Some(requests));
+    }
 }
 
 // An arena with capacity 10 has 64 bytes, and its next chunk follows the rule for growth.
@@ -68,8 +60,10 @@ fn takes<const M: usize>(
 ) {
     let arena = arena.expect(rt, name);
     same_at(rt, name, arena.min_align(), M as u64);
-    let chunks = refusing(alloc, &[]).expect(rt, "memory");
-    Stage::of(alloc, name, arena, chunks).take_all(rt, steps);
+    let mut stage = Stage::of(rt, alloc, name, arena, &[]);
+    for step in steps {
+        stage.take(rt, step);
+    }
 }
 
 #[test]

@@ -16,16 +16,14 @@ const LAYOUTS: &[(u64, u64, bool)] = &[
     (1, 3, false),
 ];
 
-// The number of elements, their size and their alignment, and whether the array has a layout.
-const ARRAYS: &[(u64, u64, u64, bool)] = &[(3, 8, 4, true), (1 << 32, 1 << 32, 1, false)];
-
 #[test]
 fn layouts(rt: HostRuntime) {
     for &(size, align, is_one) in LAYOUTS {
         let layout = Layout::new(size, align);
         same_at(&rt, (size, align), layout.is_some(), is_one);
     }
-    for &(n, size, align, is_one) in ARRAYS {
+    // The number of elements, their size and their alignment, and whether the array has a layout.
+    for (n, size, align, is_one) in [(3, 8, 4, true), (1 << 32, 1 << 32, 1, false)] {
         let array = Layout::array(n, size, align);
         same_at(&rt, (n, size), array.is_some(), is_one);
     }

@@ -49,9 +49,6 @@ fn number(rt: &impl Abort, arena: &Arena<1>, addr: u64) -> Option<u64> {
     number_of::<Brand>(rt, arena, addr, Blank::new(1))
 }
 
-// The sizes of blocks in three chunks, and their addresses.
-const BLOCKS: &[(u64, u64)] = &[(64, 20352), (64, 20288), (16320, 36848), (32640, 86048)];
-
 // An address, and the number of the chunk that contains it: four worked examples, then the ends of chunks.
 const SEARCHES: &[(u64, Option<u64>)] = &[
     (20352, Some(0)),
@@ -65,13 +62,13 @@ const SEARCHES: &[(u64, Option<u64>)] = &[
     (118689, None),
 ];
 
-// Each search takes at most two steps, by the contract of `find_in_three`.
+// In three chunks each search takes at most two steps, by the contract of `find_in_three`.
 #[test]
 fn chunks_that_are_found(rt: HostRuntime) {
     let mut arena = Arena::new(rt.alloc());
     let mut chunks = MemoryChunks::new(rt.alloc(), 1 << 20);
     same(&rt, number(&rt, &arena, 16), None);
-    for &(size, addr) in BLOCKS {
+    for (size, addr) in [(64, 20352), (64, 20288), (16320, 36848), (32640, 86048)] {
         let block = arena.alloc_layout(&mut chunks, layout(&rt, size, 1));
         same(&rt, block.expect(&rt, "a block").addr, addr);
     }

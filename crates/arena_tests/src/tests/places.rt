@@ -112,20 +112,14 @@ fn higher(at: u64, place: Option<u64>) -> Option<u64> {
     at.checked_add(place?)
 }
 
-// Checks the cases for a least alignment, with all addresses raised by `at`.
-fn holds(rt: &impl Abort, min_align: u64, at: u64, cases: &[Case]) {
-    for &case in cases {
-        let (name, _, _, _, wanted) = case;
-        let addr = place_of(rt, at, min_align, case);
-        same_at(rt, (min_align, name, at), addr, higher(at, wanted));
-    }
-}
-
 #[test]
 fn where_they_are_placed(rt: HostRuntime) {
-    for (min_align, offsets, cases) in TABLES {
-        for at in *offsets {
-            holds(&rt, *min_align, *at, cases);
+    for &(min_align, offsets, cases) in TABLES {
+        for &at in offsets {
+            for &case in cases {
+                let addr = place_of(&rt, at, min_align, case);
+                same_at(&rt, (min_align, case.0, at), addr, higher(at, case.4));
+            }
         }
     }
 }

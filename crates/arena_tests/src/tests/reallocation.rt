@@ -29,9 +29,6 @@ pub(super) const SIZES: &[Step] = &[
     Step::Realloc(0, (1 << 63) - 15, Err(0)),
 ];
 
-// A size, and the address of the block after it was reallocated to that size.
-const MOVED: &[(u64, u64)] = &[(24000, 29168), (48000, 70688)];
-
 // Places a block, and another after it, and grows the first one twice.
 #[test]
 fn through_three_chunks(rt: HostRuntime) {
@@ -39,7 +36,7 @@ fn through_three_chunks(rt: HostRuntime) {
     let mut block = Alloc::alloc(&mut a, layout(&rt, 12000, 4)).expect(&rt, "a block");
     same(&rt, block.addr, 8416);
     Alloc::alloc(&mut a, layout(&rt, 1000, 4)).expect(&rt, "a block");
-    for &(size, addr) in MOVED {
+    for (size, addr) in [(24000, 29168), (48000, 70688)] {
         block = held(&rt, &a, block);
         block = a.realloc(block, size).expect(&rt, "a block");
         same(&rt, (block.addr, block.size), (addr, size));

@@ -1,7 +1,8 @@
-// Tests of blocks that grow, shrink and are given back: their places after that, the bytes in use, and the counts.
+// Tests of blocks that grow, shrink and are given back: their places after that, the bytes in use, and the counts. And of
+// new bytes that are zeros, and of which blocks are held.
 use super::steps::Step;
 
-pub(super) const GROWN: &[Step] = &[
+pub(super) const BLOCKS: &[Step] = &[
     Step::Case("one byte more, until a reset", &[]),
     Step::Alloc(10, 1, Ok(20406)),
     Step::Grow(0, 11, 1, Ok(20405)),
@@ -22,9 +23,6 @@ pub(super) const GROWN: &[Step] = &[
     Step::Grow(0, 10, 16, Ok(20384)),
     Step::Used(32),
     Step::Statistics(1, 1),
-];
-
-pub(super) const SHRUNK: &[Step] = &[
     Step::Case("to alignment 8", &[]),
     Step::Alloc(64, 16, Ok(20352)),
     Step::Shrink(0, 20, 8, Ok(20392)),
@@ -55,9 +53,6 @@ pub(super) const SHRUNK: &[Step] = &[
     Step::Shrink(0, 50, 1, Ok(20316)),
     Step::Used(101),
     Step::Statistics(2, 0),
-];
-
-pub(super) const GIVEN_BACK: &[Step] = &[
     Step::Case("the last alone gives its place back", &[]),
     Step::Alloc(4, 1, Ok(20412)),
     Step::Alloc(2, 1, Ok(20410)),
@@ -66,6 +61,33 @@ pub(super) const GIVEN_BACK: &[Step] = &[
     Step::Dealloc(1),
     Step::Used(4),
     Step::Alloc(1, 1, Ok(20411)),
+    Step::Case("new bytes are zeros where that is asked", &[]),
+    Step::Alloc(1, 1, Ok(20415)),
+    Step::Write(0, &[9]),
+    Step::GrowZeroed(0, 3, 1, Ok(20413)),
+    Step::Read(1, &[9, 0, 0]),
+    Step::Case("new bytes are zeros, at alignment 16", &[]),
+    Step::Alloc(10, 1, Ok(20406)),
+    Step::Write(0, &[9]),
+    Step::GrowZeroed(0, 10, 16, Ok(20384)),
+    Step::Read(1, &[9, 0, 0, 0, 0, 0, 0, 0, 0, 0]),
+    Step::Case("in its generation and in used parts", &[]),
+    Step::Alloc(100, 1, Ok(20316)),
+    Step::HeldAt(0, 20315, 2, false),
+    Step::HeldAt(0, 20316, 100, true),
+    Step::HeldAt(0, 20316, 101, false),
+    Step::HeldAt(0, 20416, 0, true),
+    Step::HeldAt(0, u64::MAX, u64::MAX, false),
+    Step::HeldAt(1, 20316, 100, false),
+    Step::HeldAt(1, 20316, 0, true),
+    // The gap between two chunks belongs to no block, and a block is in one chunk.
+    Step::Case("in one chunk", &[]),
+    Step::Alloc(16320, 1, Ok(4096)),
+    Step::Alloc(32704, 1, Ok(20464)),
+    Step::HeldAt(0, 20415, 50, false),
+    Step::HeldAt(0, 20416, 48, false),
+    Step::HeldAt(0, 53167, 1, true),
+    Step::HeldAt(0, 53168, 1, false),
 ];
 
 pub(super) const BY_16: &[Step] = &[

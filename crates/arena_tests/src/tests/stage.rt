@@ -3,18 +3,10 @@ ghost use Rattle.std.specs.Prelude.{IsTrue};
 ghost use Rattle.arena_chunks.specs.Memory.{is_readable};
 
 use super::steps::{Answer, Step};
-use super::{layout, must, same_at};
+use super::{layout, must, refusing, same_at};
 use arena_chunks::{Arena, ArenaErr, Block, Checkpoint, RefusingChunks};
 use std::alloc::Global;
 use std::process::Abort;
-
-// How a block is resized.
-#[derive(Clone, Copy)]
-enum Way {
-    Grow,
-    GrowZeroed,
-    Shrink,
-}
 
 // An arena, its source, and the blocks that it returned.
 #[derive(Drop)]
@@ -27,63 +19,77 @@ pub(super) struct Stage<const M: usize> {
 }
 
 impl<const M: usize> Stage<M> {
+    // A source that refuses the requests with these numbers.
     pub(super) fn of(
+        rt: &impl Abort,
         alloc: Global,
         name: &'static str,
         arena: Arena<M>,
-        chunks: RefusingChunks,
+        refuse: &[u64],
     ) -> Stage<M> {
         Stage {
             at: (name, 0),
             arena,
-            chunks,
+            chunks: refusing(alloc, refuse).expect(rt, "memory"),
             blocks: Vec::new(alloc),
-        }
-    }
-
-    pub(super) fn take_all(&mut self, rt: &impl Abort, steps: &[Step]) {
-        for step in steps {
-            self.take(rt, step);
         }
     }
 
     pub(super) fn take(&mut self, rt: &impl Abort, step: &Step) {
         self.at.1 = self.at.1.wrapping_add(1);
         match *step {
-            Step::Write(n, bytes) => self.write(rt, n, bytes),
-            Step::Dealloc(n) => self.dealloc(rt, n),
+            Step::Write(n, bytes) => {
+                let block = self.held(rt, n);
+                must(rt, self.at, bytes.len() as u64 <= block.size);
+                self.arena.write(block, 0, bytes);
+            }
+            Step::Dealloc(n) => {
+                let block = self.held(rt, n);
+                self.arena.dealloc(block);
+            }
             Step::Reset => self.arena.reset(),
             Step::Walk(chunks) => self.walks(rt, chunks),
-            _ => self.places(rt, step),
-        }
-    }
-
-    // The steps that return a block.
-    fn places(&mut self, rt: &impl Abort, step: &Step) {
-        match *step {
-            Step::Alloc(size, align, wanted) => self.alloc(rt, size, align, wanted),
+            Step::Alloc(size, align, wanted) => {
+                let layout = layout(rt, size, align);
+                let result = self.arena.try_alloc_layout(&mut self.chunks, layout);
+                self.has_answered(rt, result, (size, align), wanted);
+            }
             Step::Grow(n, size, align, wanted) => {
-                self.resize(rt, Way::Grow, n, (size, align), wanted)
+                let (block, layout) = (self.held(rt, n), layout(rt, size, align));
+                must(rt, self.at, block.size <= size);
+                let result = self.arena.grow(&mut self.chunks, block, layout);
+                self.has_answered(rt, result, (size, align), wanted);
             }
             Step::GrowZeroed(n, size, align, wanted) => {
-                self.resize(rt, Way::GrowZeroed, n, (size, align), wanted)
+                let (block, layout) = (self.held(rt, n), layout(rt, size, align));
+                must(rt, self.at, block.size <= size);
+                let result = self.arena.grow_zeroed(&mut self.chunks, block, layout);
+                self.has_answered(rt, result, (size, align), wanted);
             }
             Step::Shrink(n, size, align, wanted) => {
-                self.resize(rt, Way::Shrink, n, (size, align), wanted)
+                let (block, layout) = (self.held(rt, n), layout(rt, size, align));
+                must(rt, self.at, size <= block.size);
+                let result = self.arena.shrink(&mut self.chunks, block, layout);
+                self.has_answered(rt, result, (size, align), wanted);
             }
-            Step::Realloc(n, size, wanted) => self.realloc(rt, n, size, wanted),
+            Step::Realloc(n, size, wanted) => {
+                let block = self.held(rt, n);
+                let result = self.arena.realloc(&mut self.chunks, block, size);
+                self.has_answered(rt, result, (size, block.align), wanted);
+            }
             _ => self.shows(rt, step),
         }
     }
 
-    // The steps that check bytes, requests, and whether a block is held or a mark is accepted.
+    // The steps that change nothing.
     fn shows(&self, rt: &impl Abort, step: &Step) {
+        let (at, arena) = (self.at, &self.arena);
         match *step {
             Step::Read(n, wanted) => {
                 let block = self.held(rt, n);
-                same_at(rt, self.at, self.arena.read(block), wanted);
+                same_at(rt, at, arena.read(block), wanted);
             }
-            Step::Requests(wanted) => same_at(rt, self.at, self.chunks.requests(), Some(wanted)),
+            Step::Requests(wanted) => same_at(rt, at, self.chunks.requests(), Some(wanted)),
             Step::HeldAt(generation, addr, size, wanted) => {
                 let block = Block {
                     generation,
@@ -91,7 +97,7 @@ impl<const M: usize> Stage<M> {
                     size,
                     align: 1,
                 };
-                same_at(rt, self.at, self.arena.is_held_place(block), wanted);
+                same_at(rt, at, arena.is_held_place(block), wanted);
             }
             Step::AcceptsAt(generation, chunks, addr, wanted) => {
                 let mark = Checkpoint {
@@ -99,25 +105,17 @@ impl<const M: usize> Stage<M> {
                     chunks,
                     addr,
                 };
-                same_at(rt, self.at, self.arena.accepts(mark), wanted);
+                same_at(rt, at, arena.accepts(mark), wanted);
             }
-            _ => self.tells(rt, step),
-        }
-    }
-
-    // The steps that check one or two numbers of the arena.
-    fn tells(&self, rt: &impl Abort, step: &Step) {
-        let (found, wanted) = match *step {
-            Step::Used(wanted) => ((self.arena.used_bytes(), 0), (wanted, 0)),
-            Step::Allocated(wanted) => ((self.arena.allocated_bytes(), 0), (wanted, 0)),
-            Step::Capacity(wanted) => ((self.arena.chunk_capacity(), 0), (wanted, 0)),
-            Step::Cursor(wanted) => ((self.arena.cursor(), 0), (wanted, 0)),
+            Step::Used(wanted) => same_at(rt, at, arena.used_bytes(), wanted),
+            Step::Allocated(wanted) => same_at(rt, at, arena.allocated_bytes(), wanted),
+            Step::Capacity(wanted) => same_at(rt, at, arena.chunk_capacity(), wanted),
+            Step::Cursor(wanted) => same_at(rt, at, arena.cursor(), wanted),
             Step::Statistics(placed, resized) => {
-                (self.arena.get_allocation_stats(), (placed, resized))
+                same_at(rt, at, arena.get_allocation_stats(), (placed, resized))
             }
-            _ => return must(rt, self.at, false),
-        };
-        same_at(rt, self.at, found, wanted);
+            _ => must(rt, at, false),
+        }
     }
 
     // Returns the block with this number. The test fails if it isn't held.
@@ -147,57 +145,6 @@ impl<const M: usize> Stage<M> {
             Err(ArenaErr::AllocErr { refused }) => same_at(rt, self.at, Err(refused), wanted),
             Err(ArenaErr::OutOfMemory) => must(rt, self.at, false),
         }
-    }
-
-    fn alloc(&mut self, rt: &impl Abort, size: u64, align: u64, wanted: Answer) {
-        let layout = layout(rt, size, align);
-        let result = self.arena.try_alloc_layout(&mut self.chunks, layout);
-        self.has_answered(rt, result, (size, align), wanted);
-    }
-
-    fn resize(
-        &mut self,
-        rt: &impl Abort,
-        way: Way,
-        n: usize,
-        (size, align): (u64, u64),
-        wanted: Answer,
-    ) {
-        let block = self.held(rt, n);
-        let layout = layout(rt, size, align);
-        let result = match way {
-            Way::Grow => {
-                must(rt, self.at, block.size <= size);
-                self.arena.grow(&mut self.chunks, block, layout)
-            }
-            Way::GrowZeroed => {
-                must(rt, self.at, block.size <= size);
-                self.arena.grow_zeroed(&mut self.chunks, block, layout)
-            }
-            Way::Shrink => {
-                must(rt, self.at, size <= block.size);
-                self.arena.shrink(&mut self.chunks, block, layout)
-            }
-        };
-        self.has_answered(rt, result, (size, align), wanted);
-    }
-
-    fn realloc(&mut self, rt: &impl Abort, n: usize, size: u64, wanted: Answer) {
-        let block = self.held(rt, n);
-        let result = self.arena.realloc(&mut self.chunks, block, size);
-        self.has_answered(rt, result, (size, block.align), wanted);
-    }
-
-    fn dealloc(&mut self, rt: &impl Abort, n: usize) {
-        let block = self.held(rt, n);
-        self.arena.dealloc(block);
-    }
-
-    // Writes the first bytes of a block.
-    fn write(&mut self, rt: &impl Abort, n: usize, bytes: &[u8]) {
-        let block = self.held(rt, n);
-        must(rt, self.at, bytes.len() as u64 <= block.size);
-        self.arena.write(block, 0, bytes);
     }
 
     // Both walks yield these used parts, and then `None` each time.

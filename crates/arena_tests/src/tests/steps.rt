@@ -2,7 +2,6 @@
 ghost use Rattle.std.specs.Prelude.{IsTrue};
 ghost use Rattle.arena_rules.specs.State.{is_min_align};
 
-use super::refusing;
 use super::stage::Stage;
 use arena_chunks::Arena;
 use std::alloc::Global;
@@ -46,34 +45,17 @@ pub(super) enum Step {
     Requests(&'static [(u64, u64)]),
 }
 
-// Returns a new arena for the case with this name.
-fn begun<const M: usize>(
-    rt: &impl Abort,
-    alloc: Global,
-    name: &'static str,
-    refuse: &[u64],
-) -> Stage<M>
-    requires { IsTrue (is_min_align M) }
-{
-    let chunks = refusing(alloc, refuse).expect(rt, "memory");
-    Stage::of(alloc, name, Arena::with_min_align(alloc), chunks)
-}
-
-// Takes a step, or begins a case.
-fn take<const M: usize>(rt: &impl Abort, alloc: Global, stage: &mut Stage<M>, step: &Step)
-    requires { IsTrue (is_min_align M) }
-{
-    match *step {
-        Step::Case(name, refuse) => *stage = begun(rt, alloc, name, refuse),
-        _ => stage.take(rt, step),
-    }
-}
-
+// Takes the steps. Before the first case there is an arena too.
 pub(super) fn all_hold<const M: usize>(rt: &impl Abort, alloc: Global, steps: &[Step])
     requires { IsTrue (is_min_align M) }
 {
-    let mut stage = begun::<M>(rt, alloc, "no case", &[]);
+    let mut stage = Stage::<M>::of(rt, alloc, "no case", Arena::with_min_align(alloc), &[]);
     for step in steps {
-        take(rt, alloc, &mut stage, step);
+        match *step {
+            Step::Case(name, refuse) => {
+                stage = Stage::of(rt, alloc, name, Arena::with_min_align(alloc), refuse);
+            }
+            _ => stage.take(rt, step),
+        }
     }
 }

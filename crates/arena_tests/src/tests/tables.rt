@@ -1,30 +1,21 @@
 // Takes the steps of all tables.
-use super::blocks::{HELD, ZEROS};
 use super::growth::{CHUNKS, FIRST_CHUNKS, RESETS};
 use super::marks::MARKS;
 use super::reallocation::SIZES;
-use super::resizes::{BY_16, GIVEN_BACK, GROWN, SHRUNK};
+use super::resizes::{BLOCKS, BY_16};
 use super::steps::all_hold;
 
 #[test]
 fn chunks(rt: HostRuntime) {
-    all_hold::<1>(&rt, rt.alloc(), CHUNKS);
-    all_hold::<1>(&rt, rt.alloc(), FIRST_CHUNKS);
-    all_hold::<1>(&rt, rt.alloc(), RESETS);
+    for steps in [CHUNKS, FIRST_CHUNKS, RESETS] {
+        all_hold::<1>(&rt, rt.alloc(), steps);
+    }
 }
 
 #[test]
-fn resized(rt: HostRuntime) {
-    all_hold::<1>(&rt, rt.alloc(), GROWN);
-    all_hold::<1>(&rt, rt.alloc(), SHRUNK);
-    all_hold::<1>(&rt, rt.alloc(), GIVEN_BACK);
-    all_hold::<1>(&rt, rt.alloc(), SIZES);
+fn blocks_and_marks(rt: HostRuntime) {
+    for steps in [BLOCKS, SIZES, MARKS] {
+        all_hold::<1>(&rt, rt.alloc(), steps);
+    }
     all_hold::<16>(&rt, rt.alloc(), BY_16);
-}
-
-#[test]
-fn held_and_marked(rt: HostRuntime) {
-    all_hold::<1>(&rt, rt.alloc(), ZEROS);
-    all_hold::<1>(&rt, rt.alloc(), HELD);
-    all_hold::<1>(&rt, rt.alloc(), MARKS);
 }

@@ -1,31 +1,21 @@
 // Tests of texts in an arena.
-use super::{ample, has, held, layout, same, same_at};
-use arena_chunks::{Allocator, ArenaErr, Block, ChunkSource, MemoryChunks, Str};
+use super::{Memory, ample, has, held, layout, same, same_at};
+use arena_chunks::{ArenaErr, Block, Str};
 use std::convert::AsStr;
 use std::process::Abort;
 use std::test::Fail;
 
 // Returns the address at which a text was placed. The test fails if the text isn't held or isn't the expected one.
-fn address_of<C: ChunkSource>(
-    rt: &impl Abort,
-    a: &Allocator<C>,
-    text: Result<Str, ArenaErr>,
-    wanted: &str,
-) -> u64 {
-    let text = text.expect(rt, "a text");
-    let block = held(rt, a, text.block);
-    let text = Str { block };
-    same(rt, text.get(a), Some(wanted));
+fn address_of(rt: &impl Abort, a: &Memory, text: Result<Str, ArenaErr>, wanted: &str) -> u64 {
+    let block = held(rt, a, text.expect(rt, "a text").block);
+    same(rt, Str { block }.get(a), Some(wanted));
     block.addr
 }
-
-// A text and its address.
-const TEXTS: &[(&str, u64)] = &[("hello", 20411), ("", 20411), ("é", 20409)];
 
 #[test]
 fn a_text_lies_below_the_cursor(rt: HostRuntime) {
     let mut a = ample(rt.alloc());
-    for &(text, addr) in TEXTS {
+    for (text, addr) in [("hello", 20411), ("", 20411), ("é", 20409)] {
         let placed = a.alloc_str(text);
         same(&rt, address_of(&rt, &a, placed, text), addr);
     }
@@ -39,7 +29,7 @@ fn a_text_lies_below_the_cursor(rt: HostRuntime) {
 // Joins texts, and checks the result and its address.
 fn joins<T: AsStr + Drop, const N: usize>(
     rt: &impl Abort,
-    a: &mut Allocator<MemoryChunks>,
+    a: &mut Memory,
     texts: [T; N],
     wanted: &str,
     addr: u64,

@@ -1,9 +1,7 @@
 // Tests of the traits of blocks, each over a new allocator.
 use super::{ample, has, held, layout, must, placed, reads, same};
 use arena_chunks::bumpalo_alloc::{Alloc as BumpaloAlloc, CannotReallocInPlace, Excess};
-use arena_chunks::{Alloc, Allocator, ArenaErr, BlockAlloc, MemoryChunks};
-use arena_place::Layout;
-use std::process::Abort;
+use arena_chunks::{Alloc, ArenaErr, BlockAlloc};
 
 const REFUSED: ArenaErr = ArenaErr::AllocErr { refused: 0 };
 
@@ -43,30 +41,25 @@ enum Move {
     BlockShrink,
 }
 
-const MOVES: &[Move] = &[Move::Shrink, Move::BlockGrowZeroed, Move::BlockShrink];
-
-// Moves a block of 10 bytes at alignment 1, which is the first of the allocator.
-fn moves(rt: &impl Abort, a: &mut Allocator<MemoryChunks>, call: &Move) {
-    let block = BumpaloAlloc::alloc(a, layout(rt, 10, 1));
-    let block = placed(rt, "alloc", a, block, 20406);
-    must(rt, "a size", block.size == 10);
-    a.write(block, 0, &[7; 10]);
-    let block = held(rt, a, block);
-    let to = layout(rt, 10, 16);
-    let moved = match call {
-        Move::Shrink => Alloc::shrink(a, block, to),
-        Move::BlockGrowZeroed => a.grow_zeroed(block, to),
-        Move::BlockShrink => BlockAlloc::shrink(a, block, to),
-    };
-    let moved = placed(rt, "moved", a, moved, 20384);
-    reads(rt, "moved", a, moved, &[7; 10]);
-    has(rt, "moved", a, 32, (1, 1));
-}
-
+// A block of 10 bytes at alignment 1, which is the first of the allocator.
 #[test]
 fn first_blocks_that_move(rt: HostRuntime) {
-    for call in MOVES {
-        moves(&rt, &mut ample(rt.alloc()), call);
+    for call in [Move::Shrink, Move::BlockGrowZeroed, Move::BlockShrink] {
+        let mut a = ample(rt.alloc());
+        let block = BumpaloAlloc::alloc(&mut a, layout(&rt, 10, 1));
+        let block = placed(&rt, "alloc", &a, block, 20406);
+        must(&rt, "a size", block.size == 10);
+        a.write(block, 0, &[7; 10]);
+        let block = held(&rt, &a, block);
+        let to = layout(&rt, 10, 16);
+        let moved = match call {
+            Move::Shrink => Alloc::shrink(&mut a, block, to),
+            Move::BlockGrowZeroed => a.grow_zeroed(block, to),
+            Move::BlockShrink => BlockAlloc::shrink(&mut a, block, to),
+        };
+        let moved = placed(&rt, "moved", &a, moved, 20384);
+        reads(&rt, "moved", &a, moved, &[7; 10]);
+        has(&rt, "moved", &a, 32, (1, 1));
     }
 }
 
@@ -96,29 +89,19 @@ fn a_first_block_that_grows_by_zeros(rt: HostRuntime) {
 }
 
 // The size and the place of a first block, and those after it was reallocated.
-const REALLOCATED: &[((u64, u64), (u64, u64))] = &[
-    ((100, 20316), (51, 20316)),
-    ((0, 16), (8, 20408)),
-    ((10, 20406), (11, 20405)),
-];
-
-fn reallocates(
-    rt: &impl Abort,
-    a: &mut Allocator<MemoryChunks>,
-    before: (u64, u64),
-    after: (u64, u64),
-) {
-    let block = BumpaloAlloc::alloc(a, layout(rt, before.0, 1));
-    let block = placed(rt, "alloc", a, block, before.1);
-    let block = a.realloc(block, after.0);
-    let block = placed(rt, "realloc", a, block, after.1);
-    same(rt, block.size, after.0);
-}
-
 #[test]
 fn first_blocks_that_are_reallocated(rt: HostRuntime) {
-    for (before, after) in REALLOCATED {
-        reallocates(&rt, &mut ample(rt.alloc()), *before, *after);
+    for (before, after) in [
+        ((100, 20316), (51, 20316)),
+        ((0, 16), (8, 20408)),
+        ((10, 20406), (11, 20405)),
+    ] {
+        let mut a = ample(rt.alloc());
+        let block = BumpaloAlloc::alloc(&mut a, layout(&rt, before.0, 1));
+        let block = placed(&rt, "alloc", &a, block, before.1);
+        let block = a.realloc(block, after.0);
+        let block = placed(&rt, "realloc", &a, block, after.1);
+        same(&rt, block.size, after.0);
     }
 }
 
@@ -146,39 +129,39 @@ fn a_first_block_of_zeros(rt: HostRuntime) {
     reads(&rt, "alloc_zeroed", &a, zeros, &[0; 10]);
 }
 
-// The size, the alignment and the number of elements: arrays without bytes, and arrays that are too large.
-const NO_ARRAYS: &[(u64, u64, u64)] = &[(4, 4, 0), (1 << 32, 1, 1 << 32), (16, 16, 1 << 59)];
-
 #[test]
 fn elements_and_arrays_of_no_bytes(rt: HostRuntime) {
     let mut a = ample(rt.alloc());
     same(&rt, a.alloc_one(layout(&rt, 0, 1)), Err(REFUSED));
-    for &(size, align, n) in NO_ARRAYS {
+    // The size, the alignment and the number of elements: arrays without bytes, and arrays that are too large.
+    for (size, align, n) in [(4, 4, 0), (1 << 32, 1, 1 << 32), (16, 16, 1 << 59)] {
         let array = a.alloc_array(layout(&rt, size, align), n);
         same(&rt, array, Err(REFUSED));
     }
 }
 
-// Places an array, which is the first block, grows it and gives it back.
-fn arrays(rt: &impl Abort, a: &mut Allocator<MemoryChunks>, byte: Layout) {
+// An array, which is the first block, grows and is given back.
+#[test]
+fn arrays(rt: HostRuntime) {
+    let mut a = ample(rt.alloc());
+    let byte = layout(&rt, 1, 1);
     let ten = a.alloc_array(byte, 10);
-    let ten = placed(rt, "alloc_array", a, ten, 20406);
-    must(rt, ten, ten.size == 10);
-    must(rt, ten, ten.align == 1);
-    same(rt, a.realloc_array(ten, byte, 10, 0), Err(REFUSED));
-    let ten = held(rt, a, ten);
+    let ten = placed(&rt, "alloc_array", &a, ten, 20406);
+    must(&rt, ten, ten.size == 10);
+    must(&rt, ten, ten.align == 1);
+    same(&rt, a.realloc_array(ten, byte, 10, 0), Err(REFUSED));
+    let ten = held(&rt, &a, ten);
     let eleven = a.realloc_array(ten, byte, 10, 11);
-    let eleven = placed(rt, "realloc_array", a, eleven, 20405);
-    same(rt, a.dealloc_array(eleven, byte, 0), Err(REFUSED));
-    let eleven = held(rt, a, eleven);
-    same(rt, a.dealloc_array(eleven, byte, 11), Ok(()));
-    has(rt, "dealloc_array", a, 0, (1, 1));
+    let eleven = placed(&rt, "realloc_array", &a, eleven, 20405);
+    same(&rt, a.dealloc_array(eleven, byte, 0), Err(REFUSED));
+    let eleven = held(&rt, &a, eleven);
+    same(&rt, a.dealloc_array(eleven, byte, 11), Ok(()));
+    has(&rt, "dealloc_array", &a, 0, (1, 1));
 }
 
 #[test]
-fn elements_and_arrays(rt: HostRuntime) {
+fn elements(rt: HostRuntime) {
     let byte = layout(&rt, 1, 1);
-    arrays(&rt, &mut ample(rt.alloc()), byte);
     let mut a = ample(rt.alloc());
     let one = a.alloc_one(byte);
     let one = placed(&rt, "alloc_one", &a, one, 20415);

@@ -1,12 +1,13 @@
-// Tests of the byte forms of single values: the least and the greatest of some types, and bytes that aren't the form
-// of a value.
+// Tests of the byte forms of values: the least and the greatest of some types, options, pairs and handles, and bytes that
+// aren't the form of a value.
 use crate::tests::{must, same};
+use arena_chunks::{Block, Str};
 use arena_items::Item;
 use std::num::{NonZeroI128, NonZeroU32};
 use std::process::Abort;
 
 // Checks that the value is written as these bytes and is read from them.
-pub(super) fn has_form<T: Item + PartialEq>(rt: &impl Abort, value: T, form: &[u8]) {
+fn has_form<T: Item + PartialEq>(rt: &impl Abort, value: T, form: &[u8]) {
     assert!(rt; form.len() as u64 == T::SIZE);
     assert!(rt; T::SIZE <= 48);
     let mut out = [9; 48];
@@ -16,7 +17,7 @@ pub(super) fn has_form<T: Item + PartialEq>(rt: &impl Abort, value: T, form: &[u
 }
 
 // Checks the size and the alignment of a type, and the byte form of each value.
-pub(super) fn forms<T: Item + PartialEq>(rt: &impl Abort, layout: (u64, u64), rows: &[(T, &[u8])]) {
+fn forms<T: Item + PartialEq>(rt: &impl Abort, layout: (u64, u64), rows: &[(T, &[u8])]) {
     same(rt, (T::SIZE, T::ALIGN), layout);
     for (value, form) in rows {
         has_form(rt, *value, form);
@@ -24,7 +25,7 @@ pub(super) fn forms<T: Item + PartialEq>(rt: &impl Abort, layout: (u64, u64), ro
 }
 
 // Checks which values are read from bytes that aren't the form of a value.
-pub(super) fn reads<T: Item + PartialEq>(rt: &impl Abort, rows: &[(&[u8], T)]) {
+fn reads<T: Item + PartialEq>(rt: &impl Abort, rows: &[(&[u8], T)]) {
     assert!(rt; T::SIZE <= 48);
     for (n, row) in rows.iter().enumerate() {
         let (form, value) = *row;
@@ -72,11 +73,6 @@ fn non_zero(rt: HostRuntime) {
     reads(&rt, &[(&[0; 16], NonZeroI128::MIN)]);
 }
 
-const BOOLS: &[(bool, &[u8])] = &[(false, &[0]), (true, &[1])];
-
-// Any byte other than 0 is read as true.
-const TRUES: &[(&[u8], bool)] = &[(&[2], true), (&[255], true)];
-
 const CHARS: &[(char, &[u8])] = &[
     ('\0', &[0; 4]),
     ('\u{e9}', &[0xe9, 0, 0, 0]),
@@ -91,11 +87,84 @@ const NO_CHARS: &[(&[u8], char)] = &[
     (&[0, 0, 17, 0], '\0'),
 ];
 
+// Any byte other than 0 is read as true.
 #[test]
 fn plain(rt: HostRuntime) {
-    forms(&rt, (1, 1), BOOLS);
-    reads(&rt, TRUES);
+    forms(&rt, (1, 1), &[(false, &[0]), (true, &[1])]);
+    reads(&rt, &[(&[2], true), (&[255], true)]);
     forms::<()>(&rt, (0, 1), &[((), &[])]);
     forms(&rt, (4, 4), CHARS);
     reads(&rt, NO_CHARS);
+}
+
+const OPTIONS_OF_U32: &[(Option<u32>, &[u8])] = &[
+    (None, &[0; 8]),
+    (Some(5), &[1, 0, 0, 0, 5, 0, 0, 0]),
+];
+
+const OPTIONS_OF_OPTIONS: &[(Option<Option<u16>>, &[u8])] = &[
+    (None, &[0; 6]),
+    (Some(None), &[1, 0, 0, 0, 0, 0]),
+    (Some(Some(0x0201)), &[1, 0, 1, 0, 1, 2]),
+];
+
+// Any tag other than 0 is read as `Some`, and padding isn't read.
+const PADDED_OPTIONS: &[(&[u8], Option<u32>)] = &[
+    (&[7, 9, 9, 9, 1, 2, 3, 4], Some(0x0403_0201)),
+    (&[0, 1, 1, 1, 1, 1, 1, 1], None),
+];
+
+#[test]
+fn options(rt: HostRuntime) {
+    forms(&rt, (8, 4), OPTIONS_OF_U32);
+    forms(&rt, (6, 2), OPTIONS_OF_OPTIONS);
+    forms(&rt, (1, 1), &[(None, &[0]), (Some(()), &[1])]);
+    reads(&rt, PADDED_OPTIONS);
+}
+
+const BYTE_FIRST: &[((u8, u32), &[u8])] = &[
+    ((1, 2), &[1, 0, 0, 0, 2, 0, 0, 0]),
+    ((255, u32::MAX), &[255, 0, 0, 0, 255, 255, 255, 255]),
+];
+
+const BYTE_LAST: &[((u32, u8), &[u8])] = &[((0x0403_0201, 5), &[1, 2, 3, 4, 5, 0, 0, 0])];
+
+// The padding is written as zeros, and isn't read.
+const WIDE: &[((u64, (u8, u128)), &[u8])] = &[(
+    (
+        0x0807_0605_0403_0201,
+        (5, 0x100f_0e0d_0c0b_0a09_0807_0605_0403_0201),
+    ),
+    &[
+        1, 2, 3, 4, 5, 6, 7, 8, 0, 0, 0, 0, 0, 0, 0, 0, 5, 0, 0, 0, 0, 0, 0, 0, 0, 0, 0, 0, 0, 0,
+        0, 0, 1, 2, 3, 4, 5, 6, 7, 8, 9, 10, 11, 12, 13, 14, 15, 16,
+    ],
+)];
+
+#[test]
+fn pairs(rt: HostRuntime) {
+    forms(&rt, (8, 4), BYTE_FIRST);
+    forms(&rt, (8, 4), BYTE_LAST);
+    forms::<((), ())>(&rt, (0, 1), &[(((), ()), &[])]);
+    forms(&rt, (48, 16), WIDE);
+    reads(&rt, &[(&[1, 9, 9, 9, 2, 0, 0, 0], (1u8, 2u32))]);
+}
+
+// The numbers 1 to 32, and the block whose form they are.
+const FORM: &[u8] = &[
+    1, 2, 3, 4, 5, 6, 7, 8, 9, 10, 11, 12, 13, 14, 15, 16, 17, 18, 19, 20, 21, 22, 23, 24, 25, 26,
+    27, 28, 29, 30, 31, 32,
+];
+
+const BLOCK: Block = Block {
+    generation: 0x0807_0605_0403_0201,
+    addr: 0x100f_0e0d_0c0b_0a09,
+    size: 0x1817_1615_1413_1211,
+    align: 0x201f_1e1d_1c1b_1a19,
+};
+
+#[test]
+fn blocks_and_texts(rt: HostRuntime) {
+    has_form(&rt, BLOCK, FORM);
+    has_form(&rt, Str { block: BLOCK }, FORM);
 }

@@ -39,9 +39,6 @@ fn values_of_boxes(rt: HostRuntime) {
     same(&rt, Box::into_non_null(seven), block);
 }
 
-// An index, and the values there of a slice and of one that was set.
-const LISTS: &[(u64, u32, u32)] = &[(0, 1, 10), (1, 2, 99), (2, 3, 30)];
-
 #[test]
 fn slices(rt: HostRuntime) {
     let mut a = ample(rt.alloc());
@@ -51,7 +48,7 @@ fn slices(rt: HostRuntime) {
     of_layout(&rt, &a, s.block, 12, 4);
     s.set(&mut a, 1, 99);
     let (one, other) = (one.into_arena_slice(), s.into_arena_slice_mut());
-    for &(i, first, second) in LISTS {
+    for (i, first, second) in [(0, 1, 10), (1, 2, 99), (2, 3, 30)] {
         same(&rt, at(&rt, &a, one, i), first);
         same(&rt, at(&rt, &a, other, i), second);
     }
