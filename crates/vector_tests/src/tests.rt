@@ -13,7 +13,7 @@ mod vector_types;
 mod vector_walks;
 mod vectors;
 
-ghost use Rattle.std.specs.Prelude.{◌≡◌, ◌<◌, ◌≤◌, IsTrue};
+ghost use Rattle.std.specs.Prelude.{◌≡◌, IsTrue};
 ghost use Rattle.arena_chunks.specs.Memory.{is_readable};
 
 use arena_chunks::{Allocator, Block, ChunkSource, MemoryChunks};
@@ -21,7 +21,9 @@ use std::alloc::Global;
 use std::fmt::Debug;
 use std::process::Abort;
 
-fn ample(alloc: Global) -> Allocator<MemoryChunks> {
+type Memory = Allocator<MemoryChunks>;
+
+fn ample(alloc: Global) -> Memory {
     Allocator::new(alloc, MemoryChunks::new(alloc, 1 << 20))
 }
 
@@ -34,30 +36,13 @@ fn held<C: ChunkSource>(rt: &impl Abort, a: &Allocator<C>, block: Block) -> Bloc
     block
 }
 
-fn below(rt: &impl Abort, i: u32, len: u32)
-    ensures { i < len }
-{
-    assert!(rt; i < len, "an index");
-}
-
-fn at_most(rt: &impl Abort, n: u32, most: u32)
-    ensures { n ≤ most }
-{
-    assert!(rt; n <= most, "a number that is at most another");
-}
-
 fn same<T: Copy + PartialEq + Debug>(rt: &impl Abort, found: T, wanted: T) {
     same_at(rt, (), found, wanted);
 }
 
 // Fails the test if the two values differ. `at` names the case.
-fn same_at<A: Copy + Debug, T: Copy + PartialEq + Debug>(
-    rt: &impl Abort,
-    at: A,
-    found: T,
-    wanted: T,
-) {
-    if found != wanted {
-        panic!(rt; "{found:?} is not {wanted:?}, at {at:?}");
+fn same_at<A: Copy + Debug, T: Copy + PartialEq + Debug>(rt: &impl Abort, at: A, is: T, wanted: T) {
+    if is != wanted {
+        panic!(rt; "{is:?} is not {wanted:?}, at {at:?}");
     }
 }

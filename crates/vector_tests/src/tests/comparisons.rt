@@ -1,7 +1,6 @@
 // Tests of comparisons, hashes and debug texts of vectors, by the Rust crate's tests.
 use super::vectors::{known, vec_of};
-use super::{ample, same};
-use arena_chunks::{Allocator, ChunkSource};
+use super::{Memory, ample, same};
 use arena_items::Item;
 use arena_vec::Vec;
 use std::alloc::Global;
@@ -10,33 +9,15 @@ use std::fmt::Debug;
 use std::hash::{DefaultHasher, Hash, Hasher};
 use std::process::Abort;
 
-// Checks whether a vector is equal to another, with the values of the list, and how it compares with it.
-fn compares<C: ChunkSource>(
-    rt: &impl Abort,
-    a: &Allocator<C>,
-    one: Vec<u8>,
-    other: Vec<u8>,
-    list: &[u8],
-    order: Ordering,
-) {
-    known(rt, a, one);
-    known(rt, a, other);
-    same(rt, one.eq(a, &other), order.is_eq());
-    same(rt, one.eq_slice(a, list), order.is_eq());
-    same(rt, one.cmp(a, &other), order);
-    same(rt, one.partial_cmp(a, &other), Some(order));
-    let is_same = hash_of(rt, a, one) == hash_of(rt, a, other);
-    same(rt, is_same, order.is_eq());
-}
-
 // Returns the hash of a vector by std's hasher, which is that of a slice with the same values.
-fn hash_of<C: ChunkSource>(rt: &impl Abort, a: &Allocator<C>, vec: Vec<u8>) -> u64 {
+fn hash_of(rt: &impl Abort, a: &Memory, vec: Vec<u8>) -> u64 {
     known(rt, a, vec);
     let mut state = DefaultHasher::new();
     vec.hash(a, &mut state);
     state.finish()
 }
 
+// A list, and how the values 1 to 3 compare with it.
 const ORDERS: &[(&[u8], Ordering)] = &[
     (&[1, 2, 3], Ordering::Equal),
     (&[1, 2, 4], Ordering::Less),
@@ -47,9 +28,15 @@ const ORDERS: &[(&[u8], Ordering)] = &[
 fn equality_and_order(rt: HostRuntime) {
     let mut a = ample(rt.alloc());
     let one = vec_of(&rt, &mut a, &[1u8, 2, 3]);
-    for (list, order) in ORDERS {
+    for &(list, order) in ORDERS {
         let other = vec_of(&rt, &mut a, list);
-        compares(&rt, &a, one, other, list, *order);
+        known(&rt, &a, one);
+        same(&rt, one.eq(&a, &other), order.is_eq());
+        same(&rt, one.eq_slice(&a, list), order.is_eq());
+        same(&rt, one.cmp(&a, &other), order);
+        same(&rt, one.partial_cmp(&a, &other), Some(order));
+        let is_same = hash_of(&rt, &a, one) == hash_of(&rt, &a, other);
+        same(&rt, is_same, order.is_eq());
         let mut state = DefaultHasher::new();
         list.hash(&mut state);
         same(&rt, hash_of(&rt, &a, other), state.finish());

@@ -2,8 +2,7 @@
 use super::numbers::Hints::{self, AtLeast, Exactly};
 use super::vector_refusals::{NONE_REFUSED, fixed};
 use super::vectors::{is_list, known, vec_of};
-use super::{at_most, same, same_at};
-use arena_chunks::{Allocator, MemoryChunks};
+use super::{Memory, same, same_at};
 use arena_vec::{Grown, Vec};
 use std::alloc::Global;
 use std::process::Abort;
@@ -15,15 +14,14 @@ type Told = ((Option<u32>, Option<u32>), Grown<()>);
 // the result.
 fn splice(
     rt: &impl Abort,
-    a: &mut Allocator<MemoryChunks>,
+    a: &mut Memory,
     vec: &mut Vec<u32>,
     range: (u32, u32),
     hints: &Hints,
 ) -> Told {
     known(rt, a, *vec);
     let (start, end) = range;
-    at_most(rt, start, end);
-    at_most(rt, end, vec.len());
+    assert!(rt; start <= end && end <= vec.len());
     let mut gone = vec.splice(a, start, end, hints.numbers(7));
     same(rt, gone.len(), (end - start) as usize);
     let ends = (gone.next(), gone.next_back());

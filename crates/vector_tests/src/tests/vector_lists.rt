@@ -3,13 +3,13 @@
 ghost use Rattle.arena_chunks.specs.Frame.{AreBlocksApart};
 
 use super::numbers::Hints::{self, AtLeast, AtMost, Exactly};
-use super::vector_refusals::fixed;
-use super::vectors::{Answer, Call, Row, is_list, known, runs, vec_of};
-use super::{ample, at_most, same, same_at};
-use arena_chunks::{Allocator, Block, ChunkSource, MemoryChunks};
+use super::vector_refusals::{NO_PLACE, fixed};
+use super::vectors::Call::{Insert, Push, Reserve, Resize};
+use super::vectors::{DONE, Row, is_list, known, runs, vec_of};
+use super::{Memory, ample, same, same_at};
+use arena_chunks::Block;
 use arena_vec::AllocError::CapacityOverflow;
 use arena_vec::{AllocError, Grown, Vec};
-use std::alloc::Global;
 use std::process::Abort;
 
 // How a vector is made.
@@ -23,7 +23,7 @@ enum New {
     InRoom(u64, Hints),
 }
 
-fn make(a: &mut Allocator<MemoryChunks>, new: &New, taken: &mut u64) -> Grown<Vec<u32>> {
+fn make(a: &mut Memory, new: &New, taken: &mut u64) -> Grown<Vec<u32>> {
     match new {
         New::Room(cap) => Vec::with_capacity_in(*cap, a),
         New::Items(hints) => Vec::from_iter_in(hints.counting(taken), a),
@@ -49,9 +49,6 @@ const NEW_VECTORS: &[(New, &[u32], u32, u64)] = &[
     (New::InRoom(2, AtLeast(0, 3)), &[1, 2, 3], 4, 16),
 ];
 
-// There is no place, and no chunk was requested.
-const NO_PLACE: AllocError = AllocError::AllocErr { refused: 0 };
-
 // In an arena of 16 bytes: how a vector is made, the error, the number of items that were taken, and the bytes in use.
 const REFUSED: &[(New, AllocError, u64, u64)] = &[
     (New::Room(5), NO_PLACE, 0, 0),
@@ -64,39 +61,30 @@ const REFUSED: &[(New, AllocError, u64, u64)] = &[
     (New::Room(1 << 30), CapacityOverflow, 0, 0),
 ];
 
-fn is_made(rt: &impl Abort, alloc: Global, new: &New, list: &[u32], room: (u32, u64)) {
-    let mut a = ample(alloc);
-    let mut taken = 0;
-    let vec = make(&mut a, new, &mut taken).expect(rt, "room");
-    is_list(rt, &a, vec, list);
-    same_at(rt, list, taken <= list.len() as u64, true);
-    same_at(rt, list, vec.is_empty(), list.is_empty());
-    same_at(rt, list, (vec.capacity(), a.used_bytes()), room);
-    same_at(rt, list, vec.as_ptr().size, room.1);
-}
-
-// Checks that a vector can't be made, the number of items that were taken, and the bytes in use.
-fn is_refused(rt: &impl Abort, alloc: Global, new: &New, why: AllocError, left: (u64, u64)) {
-    let mut a = fixed(rt, alloc, 16);
-    let mut taken = 0;
-    let made = make(&mut a, new, &mut taken);
-    same(rt, made.err(), Some(why));
-    same(rt, (taken, a.used_bytes()), left);
-}
-
 #[test]
 fn new_vectors(rt: HostRuntime) {
     for (new, list, cap, used) in NEW_VECTORS {
-        is_made(&rt, rt.alloc(), new, list, (*cap, *used));
+        let mut a = ample(rt.alloc());
+        let mut taken = 0;
+        let vec = make(&mut a, new, &mut taken).expect(&rt, "room");
+        is_list(&rt, &a, vec, list);
+        same_at(&rt, *list, taken <= list.len() as u64, true);
+        same_at(&rt, *list, vec.is_empty(), list.is_empty());
+        same_at(&rt, *list, (vec.capacity(), a.used_bytes()), (*cap, *used));
+        same_at(&rt, *list, vec.as_ptr().size, *used);
     }
     for (new, why, items, used) in REFUSED {
-        is_refused(&rt, rt.alloc(), new, *why, (*items, *used));
+        let mut a = fixed(&rt, rt.alloc(), 16);
+        let mut taken = 0;
+        let made = make(&mut a, new, &mut taken);
+        same(&rt, made.err(), Some(*why));
+        same(&rt, (taken, a.used_bytes()), (*items, *used));
     }
 }
 
 const PUSHED: &[Row<u32>] = &[
-    (Call::Reserve(0), Answer::Done, &[123], 1),
-    (Call::Push(456), Answer::Done, &[123, 456], 2),
+    (Reserve(0), DONE, &[123], 1),
+    (Push(456), DONE, &[123, 456], 2),
 ];
 
 #[test]
@@ -115,16 +103,16 @@ fn apart(rt: &impl Abort, one: Block, other: Block)
 }
 
 // Splits a vector of the list at an index, checks both parts, and joins them again.
-fn split_and_join<C: ChunkSource>(
+fn split_and_join(
     rt: &impl Abort,
-    a: &mut Allocator<C>,
+    a: &mut Memory,
     vec: &mut Vec<u32>,
     list: &[u32],
     at: u32,
     parts: (&[u32], &[u32]),
 ) {
     known(rt, a, *vec);
-    at_most(rt, at, vec.len());
+    assert!(rt; at <= vec.len());
     let mut tail = vec.split_off(a, at).expect(rt, "room");
     is_list(rt, a, *vec, parts.0);
     is_list(rt, a, tail, parts.1);
@@ -142,10 +130,6 @@ const PARTS: &[(&[u32], u32, (&[u32], &[u32]))] = &[
     (&[1, 2, 3, 4, 5, 6], 3, (&[1, 2, 3], &[4, 5, 6])),
 ];
 
-const INSERTED: &[Row<u32>] = &[(Call::Insert(1, 9), Answer::Done, &[1, 9, 2, 3], 6)];
-
-const RESIZED: &[Row<u32>] = &[(Call::Resize(5, 0), Answer::Done, &[1, 9, 2, 3, 0], 6)];
-
 #[test]
 fn split_and_joined(rt: HostRuntime) {
     for (list, at, parts) in PARTS {
@@ -155,7 +139,17 @@ fn split_and_joined(rt: HostRuntime) {
     }
     let mut a = ample(rt.alloc());
     let mut vec = Vec::from_array_in([1u32, 2, 3], &mut a).expect(&rt, "room");
-    runs(&rt, &mut a, &mut vec, INSERTED);
+    runs(
+        &rt,
+        &mut a,
+        &mut vec,
+        &[(Insert(1, 9), DONE, &[1, 9, 2, 3], 6)],
+    );
     split_and_join(&rt, &mut a, &mut vec, &[1, 9, 2, 3], 2, (&[1, 9], &[2, 3]));
-    runs(&rt, &mut a, &mut vec, RESIZED);
+    runs(
+        &rt,
+        &mut a,
+        &mut vec,
+        &[(Resize(5, 0), DONE, &[1, 9, 2, 3, 0], 6)],
+    );
 }
