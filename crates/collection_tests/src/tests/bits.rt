@@ -2,15 +2,16 @@
 // Rust crate's tests.
 ghost use Rattle.arena_bits.specs.Sets.{AreOneOrApart};
 
-use super::{NO_CHUNK, NO_PLACE, ample, fixed, limited, same};
+use super::{Memory, NO_CHUNK, NO_PLACE, ample, fixed, limited, same};
 use arena_bits::BitSet;
-use arena_chunks::{Allocator, ChunkSource};
 use std::alloc::Global;
 use std::process::Abort;
 
 // A call on a set.
 #[derive(Drop)]
 pub(super) enum Step {
+    // Begins with a new set of this capacity.
+    New(u64),
     Set(u64),
     Unset(u64),
     Clear,
@@ -28,21 +29,10 @@ fn apart(rt: &impl Abort, one: BitSet, other: BitSet)
     assert!(rt; one.addr + one.size <= other.addr || other.addr + other.size <= one.addr);
 }
 
-// Adds the numbers of another set to a set.
-fn join<C: ChunkSource>(rt: &impl Abort, a: &mut Allocator<C>, set: &mut BitSet, other: BitSet) {
-    assert!(rt; set.is_held(a) && other.is_held(a));
-    apart(rt, other, *set);
-    set.union(a, &other);
-}
-
-pub(super) fn take<C: ChunkSource>(
-    rt: &impl Abort,
-    a: &mut Allocator<C>,
-    set: &mut BitSet,
-    step: &Step,
-) {
+pub(super) fn take(rt: &impl Abort, a: &mut Memory, set: &mut BitSet, step: &Step) {
     assert!(rt; set.is_held(a));
     match step {
+        Step::New(capacity) => *set = BitSet::new_in(*capacity, a).expect(rt, "a set"),
         Step::Set(bit) => {
             assert!(rt; *bit / 64 < set.words.len());
             set.set_bit(a, *bit);
@@ -58,12 +48,7 @@ pub(super) fn take<C: ChunkSource>(
 }
 
 // Returns a set of this capacity with these numbers.
-pub(super) fn set_of<C: ChunkSource>(
-    rt: &impl Abort,
-    a: &mut Allocator<C>,
-    capacity: u64,
-    bits: &[u64],
-) -> BitSet {
+pub(super) fn set_of(rt: &impl Abort, a: &mut Memory, capacity: u64, bits: &[u64]) -> BitSet {
     let mut set = BitSet::new_in(capacity, a).expect(rt, "a set");
     for bit in bits {
         take(rt, a, &mut set, &Step::Set(*bit));
@@ -72,12 +57,7 @@ pub(super) fn set_of<C: ChunkSource>(
 }
 
 // Checks that an iterator yields these numbers.
-pub(super) fn walks<C: ChunkSource>(
-    rt: &impl Abort,
-    a: &Allocator<C>,
-    set: &BitSet,
-    numbers: &[u64],
-) {
+pub(super) fn walks(rt: &impl Abort, a: &Memory, set: &BitSet, numbers: &[u64]) {
     assert!(rt; set.is_held(a));
     let mut ones = set.ones(a);
     for number in numbers {
@@ -87,13 +67,7 @@ pub(super) fn walks<C: ChunkSource>(
 }
 
 // Checks the text of a set, plain and in the debug form, and that the set is empty if the text has no 1.
-fn shows<C: ChunkSource>(
-    rt: &impl Abort,
-    alloc: Global,
-    a: &Allocator<C>,
-    set: &BitSet,
-    text: &str,
-) {
+fn shows(rt: &impl Abort, alloc: Global, a: &Memory, set: &BitSet, text: &str) {
     assert!(rt; set.is_held(a));
     let plain = set.display(alloc, a).expect(rt, "memory");
     same(rt, plain.as_slice(), text.as_bytes());
@@ -103,117 +77,83 @@ fn shows<C: ChunkSource>(
     same(rt, set.is_empty(a), !text.as_bytes().contains(&b'1'));
 }
 
-// A capacity, and the steps on a set with that, with the text after each.
-const CHANGES: &[(u64, &[(Step, &str)])] = &[
+// Steps, and the text of the set after each.
+const CHANGES: &[(Step, &str)] = &[
+    (Step::New(64), "00000000"),
+    (Step::Set(0), "00000001"),
+    (Step::Set(1), "00000011"),
+    (Step::Set(7), "10000011"),
+    (Step::Set(9), "00000010_10000011"),
     (
-        64,
-        &[
-            (Step::Set(0), "00000001"),
-            (Step::Set(1), "00000011"),
-            (Step::Set(7), "10000011"),
-            (Step::Set(9), "00000010_10000011"),
-            (
-                Step::Set(63),
-                "10000000_00000000_00000000_00000000_00000000_00000000_00000010_10000011",
-            ),
-        ],
+        Step::Set(63),
+        "10000000_00000000_00000000_00000000_00000000_00000000_00000010_10000011",
+    ),
+    (Step::New(65), "00000000"),
+    (Step::Set(0), "00000001"),
+    (Step::Set(1), "00000011"),
+    (Step::Set(7), "10000011"),
+    (Step::Set(8), "00000001_10000011"),
+    (Step::Set(15), "10000001_10000011"),
+    (
+        Step::Set(63),
+        "10000000_00000000_00000000_00000000_00000000_00000000_10000001_10000011",
     ),
     (
-        65,
-        &[
-            (Step::Set(0), "00000001"),
-            (Step::Set(1), "00000011"),
-            (Step::Set(7), "10000011"),
-            (Step::Set(8), "00000001_10000011"),
-            (Step::Set(15), "10000001_10000011"),
-            (
-                Step::Set(63),
-                "10000000_00000000_00000000_00000000_00000000_00000000_10000001_10000011",
-            ),
-            (
-                Step::Set(64),
-                "00000001_10000000_00000000_00000000_00000000_00000000_00000000_10000001_10000011",
-            ),
-        ],
+        Step::Set(64),
+        "00000001_10000000_00000000_00000000_00000000_00000000_00000000_10000001_10000011",
+    ),
+    (Step::New(16), "00000000"),
+    (Step::Set(0), "00000001"),
+    (Step::Set(1), "00000011"),
+    (Step::Set(7), "10000011"),
+    (Step::Set(8), "00000001_10000011"),
+    (Step::Unset(1), "00000001_10000001"),
+    (Step::Unset(1), "00000001_10000001"),
+    (Step::Unset(8), "10000001"),
+    (Step::Unset(0), "10000000"),
+    (Step::Unset(7), "00000000"),
+    (Step::New(128), "00000000"),
+    (Step::Set(0), "00000001"),
+    (Step::Set(7), "10000001"),
+    (
+        Step::Set(64),
+        "00000001_00000000_00000000_00000000_00000000_00000000_00000000_00000000_10000001",
     ),
     (
-        16,
-        &[
-            (Step::Set(0), "00000001"),
-            (Step::Set(1), "00000011"),
-            (Step::Set(7), "10000011"),
-            (Step::Set(8), "00000001_10000011"),
-            (Step::Unset(1), "00000001_10000001"),
-            (Step::Unset(1), "00000001_10000001"),
-            (Step::Unset(8), "10000001"),
-            (Step::Unset(0), "10000000"),
-            (Step::Unset(7), "00000000"),
-        ],
+        Step::Set(127),
+        "10000000_00000000_00000000_00000000_00000000_00000000_00000000_\
+         00000001_00000000_00000000_00000000_00000000_00000000_00000000_00000000_10000001",
     ),
+    (Step::Clear, "00000000"),
     (
-        128,
-        &[
-            (Step::Set(0), "00000001"),
-            (Step::Set(7), "10000001"),
-            (
-                Step::Set(64),
-                "00000001_00000000_00000000_00000000_00000000_00000000_00000000_00000000_10000001",
-            ),
-            (
-                Step::Set(127),
-                "10000000_00000000_00000000_00000000_00000000_00000000_00000000_\
-                 00000001_00000000_00000000_00000000_00000000_00000000_00000000_00000000_10000001",
-            ),
-            (Step::Clear, "00000000"),
-            (
-                Step::Set(42),
-                "00000100_00000000_00000000_00000000_00000000_00000000",
-            ),
-        ],
+        Step::Set(42),
+        "00000100_00000000_00000000_00000000_00000000_00000000",
     ),
+    (Step::New(128), "00000000"),
     (
-        128,
-        &[
-            (
-                Step::Set(100),
-                "00010000_00000000_00000000_00000000_00000000_00000000_00000000_\
-                 00000000_00000000_00000000_00000000_00000000_00000000",
-            ),
-            (Step::Unset(100), "00000000"),
-        ],
+        Step::Set(100),
+        "00010000_00000000_00000000_00000000_00000000_00000000_00000000_\
+         00000000_00000000_00000000_00000000_00000000_00000000",
     ),
-    (3, &[(Step::Set(0), "00000001"), (Step::Set(2), "00000101")]),
+    (Step::Unset(100), "00000000"),
+    (Step::New(3), "00000000"),
+    (Step::Set(0), "00000001"),
+    (Step::Set(2), "00000101"),
 ];
-
-// Takes the steps on a new set of this capacity, and checks its text at first and after each.
-fn changes<C: ChunkSource>(
-    rt: &impl Abort,
-    alloc: Global,
-    a: &mut Allocator<C>,
-    capacity: u64,
-    steps: &[(Step, &str)],
-) {
-    let mut set = set_of(rt, a, capacity, &[]);
-    shows(rt, alloc, a, &set, "00000000");
-    for (step, text) in steps {
-        take(rt, a, &mut set, step);
-        shows(rt, alloc, a, &set, text);
-    }
-}
 
 #[test]
 fn texts_of_sets(rt: HostRuntime) {
-    for (capacity, steps) in CHANGES {
-        let mut a = ample(rt.alloc());
-        changes(&rt, rt.alloc(), &mut a, *capacity, steps);
+    let mut a = ample(rt.alloc());
+    let mut set = set_of(&rt, &mut a, 0, &[]);
+    for (step, text) in CHANGES {
+        take(&rt, &mut a, &mut set, step);
+        shows(&rt, rt.alloc(), &a, &set, text);
     }
 }
 
 // Two sets by their capacities and numbers; and the numbers of the first below its capacity, and its text, after the
 // second is joined to it.
-type Joined<'a> = (u64, &'a [u64], u64, &'a [u64], &'a [u64], &'a str);
-
-const JOINED: &[Joined] = &[
+const JOINED: &[(u64, &[u64], u64, &[u64], &[u64], &str)] = &[
     (
         16,
         &[0, 3, 8],
@@ -226,55 +166,41 @@ const JOINED: &[Joined] = &[
     (0, &[], 128, &[1], &[], ""),
 ];
 
-// Adds the numbers of one set to another.
-fn joins<C: ChunkSource>(rt: &impl Abort, alloc: Global, a: &mut Allocator<C>, row: &Joined) {
-    let (capacity, mine, other_capacity, theirs, both, text) = *row;
-    let mut set = set_of(rt, a, capacity, mine);
-    let other = set_of(rt, a, other_capacity, theirs);
-    join(rt, a, &mut set, other);
-    walks(rt, a, &set, both);
-    shows(rt, alloc, a, &set, text);
-}
-
 #[test]
 fn sets_joined(rt: HostRuntime) {
-    for row in JOINED {
-        joins(&rt, rt.alloc(), &mut ample(rt.alloc()), row);
+    for &(capacity, mine, other_capacity, theirs, both, text) in JOINED {
+        let mut a = ample(rt.alloc());
+        let mut set = set_of(&rt, &mut a, capacity, mine);
+        let other = set_of(&rt, &mut a, other_capacity, theirs);
+        assert!(rt; set.is_held(&a) && other.is_held(&a));
+        apart(&rt, other, set);
+        set.union(&mut a, &other);
+        walks(&rt, &a, &set, both);
+        shows(&rt, rt.alloc(), &a, &set, text);
     }
 }
 
 // A capacity, numbers, and those below the capacity.
-type Row = (u64, &'static [u64], &'static [u64]);
-
-const CAPACITIES: &[Row] = &[
+const CAPACITIES: &[(u64, &[u64], &[u64])] = &[
     (0, &[], &[]),
     (3, &[0, 2], &[0, 2]),
     (128, &[100], &[100]),
     (1_000_000, &[0, 63, 64, 999_999], &[0, 63, 64, 999_999]),
 ];
 
-// Checks which numbers below 200 a set has below its capacity, and that it has none from there on.
-fn tells<C: ChunkSource>(rt: &impl Abort, a: &Allocator<C>, set: &BitSet, below: &[u64]) {
-    assert!(rt; set.is_held(a));
-    for bit in 0..200 {
-        assert!(rt; set.contains(a, bit) == below.contains(&bit));
-    }
-    assert!(rt; !set.contains(a, set.capacity) && !set.contains(a, u64::MAX));
-}
-
-// Checks a set of a row's capacity with its numbers.
-fn fills<C: ChunkSource>(rt: &impl Abort, a: &mut Allocator<C>, row: &Row) {
-    let (capacity, bits, below) = *row;
-    let set = set_of(rt, a, capacity, bits);
-    same(rt, set.capacity(), capacity);
-    walks(rt, a, &set, below);
-    tells(rt, a, &set, below);
-}
-
+// Which numbers below 200 a set has below its capacity, and that it has none from there on, is checked too.
 #[test]
 fn sets_of_some_capacities(rt: HostRuntime) {
-    for row in CAPACITIES {
-        fills(&rt, &mut ample(rt.alloc()), row);
+    for &(capacity, bits, below) in CAPACITIES {
+        let mut a = ample(rt.alloc());
+        let set = set_of(&rt, &mut a, capacity, bits);
+        same(&rt, set.capacity(), capacity);
+        walks(&rt, &a, &set, below);
+        assert!(rt; set.is_held(&a));
+        for bit in 0..200 {
+            assert!(rt; set.contains(&a, bit) == below.contains(&bit));
+        }
+        assert!(rt; !set.contains(&a, set.capacity) && !set.contains(&a, u64::MAX));
     }
 }
 

@@ -1,7 +1,7 @@
 // Tests of texts by their bytes and capacity after each call. The values are worked examples of the rules, and the
 // Rust crate's examples; a row's bytes are those of the text that the compiler makes.
-use super::{NO_CHUNK, NO_PLACE, ample, fixed, limited, same, same_at};
-use arena_chunks::{Allocator, ChunkSource};
+use self::Make::*;
+use super::{Memory, NO_CHUNK, NO_PLACE, ample, fixed, limited, same, same_at};
 use arena_items::{AllocError, Grown};
 use arena_text::StringBuilder;
 use std::process::Abort;
@@ -12,13 +12,15 @@ pub(super) enum Make {
     Empty,
     Room(u64),
     Text(&'static str),
-    Texts(&'static str, &'static str),
+    Two(&'static str, &'static str),
     Five(&'static str, &'static str, &'static str, &'static str, &'static str),
 }
 
 // One call on a text.
 #[derive(Drop)]
 enum Step {
+    // Begins with an empty text.
+    New,
     Bytes(&'static [u8]),
     Text(&'static str),
     End(u8),
@@ -32,14 +34,13 @@ enum Step {
     Set(u64, u8),
 }
 
-fn take<C: ChunkSource>(
-    rt: &impl Abort,
-    a: &mut Allocator<C>,
-    text: &mut StringBuilder,
-    step: &Step,
-) -> Grown<()> {
+fn take(rt: &impl Abort, a: &mut Memory, text: &mut StringBuilder, step: &Step) -> Grown<()> {
     assert!(rt; text.is_held(a));
     match step {
+        Step::New => {
+            *text = StringBuilder::new_in();
+            Ok(())
+        }
         Step::Bytes(bytes) => text.push_bytes_unchecked(a, bytes),
         Step::Text(s) => text.push_str(a, s),
         Step::End(byte) => text.push_byte_unchecked(a, *byte),
@@ -67,26 +68,20 @@ fn take<C: ChunkSource>(
 }
 
 // Checks the bytes and the capacity of a text.
-pub(super) fn has<C: ChunkSource>(
-    rt: &impl Abort,
-    a: &Allocator<C>,
-    text: StringBuilder,
-    bytes: &[u8],
-    cap: u64,
-) {
+pub(super) fn has(rt: &impl Abort, a: &Memory, text: StringBuilder, bytes: &[u8], cap: u64) {
     assert!(rt; text.is_held(a));
     same(rt, text.as_bytes(a), bytes);
     same(rt, (text.len(), text.capacity()), (bytes.len() as u64, cap));
     same(rt, text.is_empty(), bytes.is_empty());
 }
 
-pub(super) fn text_of<C: ChunkSource>(a: &mut Allocator<C>, how: &Make) -> Grown<StringBuilder> {
+pub(super) fn text_of(a: &mut Memory, how: &Make) -> Grown<StringBuilder> {
     match how {
-        Make::Empty => Ok(StringBuilder::new_in()),
-        Make::Room(n) => StringBuilder::with_capacity_in(*n, a),
-        Make::Text(s) => StringBuilder::from_str_in(s, a),
-        Make::Texts(one, two) => StringBuilder::from_strs_array_in([*one, *two], a),
-        Make::Five(one, two, three, four, five) => {
+        Empty => Ok(StringBuilder::new_in()),
+        Room(n) => StringBuilder::with_capacity_in(*n, a),
+        Text(s) => StringBuilder::from_str_in(s, a),
+        Two(one, two) => StringBuilder::from_strs_array_in([*one, *two], a),
+        Five(one, two, three, four, five) => {
             StringBuilder::from_strs_array_in([*one, *two, *three, *four, *five], a)
         }
     }
@@ -96,44 +91,22 @@ pub(super) fn text_of<C: ChunkSource>(a: &mut Allocator<C>, how: &Make) -> Grown
 type Row = (Step, &'static str, u64);
 
 // Takes a step, and checks its result, and the bytes and the capacity after it.
-fn takes<C: ChunkSource>(
-    rt: &impl Abort,
-    a: &mut Allocator<C>,
-    text: &mut StringBuilder,
-    step: &Step,
-    wanted: Grown<()>,
-    bytes: &str,
-    cap: u64,
-) {
-    same_at(rt, bytes, take(rt, a, text, step), wanted);
-    has(rt, a, *text, bytes.as_bytes(), cap);
-}
-
-fn runs<C: ChunkSource>(
-    rt: &impl Abort,
-    a: &mut Allocator<C>,
-    text: &mut StringBuilder,
-    rows: &[Row],
-) {
-    for (step, bytes, cap) in rows {
-        takes(rt, a, text, step, Ok(()), bytes, *cap);
-    }
+fn takes(rt: &impl Abort, a: &mut Memory, text: &mut StringBuilder, row: &Row, wanted: Grown<()>) {
+    let (step, bytes, cap) = row;
+    same_at(rt, *bytes, take(rt, a, text, step), wanted);
+    has(rt, a, *text, bytes.as_bytes(), *cap);
 }
 
 // How a text is made, its bytes and its capacity.
 const MADE: &[(Make, &str, u64)] = &[
-    (Make::Empty, "", 0),
-    (Make::Room(3), "", 3),
-    (Make::Room(10), "", 10),
-    (Make::Text("ab"), "ab", 2),
-    (Make::Text("foo"), "foo", 3),
-    (Make::Texts("a", "b"), "ab", 2),
-    (Make::Texts("", ""), "", 0),
-    (
-        Make::Five("hello", " ", "world", "!", ""),
-        "hello world!",
-        12,
-    ),
+    (Empty, "", 0),
+    (Room(3), "", 3),
+    (Room(10), "", 10),
+    (Text("ab"), "ab", 2),
+    (Text("foo"), "foo", 3),
+    (Two("a", "b"), "ab", 2),
+    (Two("", ""), "", 0),
+    (Five("hello", " ", "world", "!", ""), "hello world!", 12),
 ];
 
 #[test]
@@ -147,53 +120,47 @@ fn made(rt: HostRuntime) {
     }
 }
 
-// Steps on an empty text.
-const BUILT: &[&[Row]] = &[
-    &[
-        (Step::Text("hé"), "hé", 8),
-        (Step::Times(46, 6), "hé......", 16),
-        (Step::AsciiStart(33), "!hé......", 16),
-    ],
-    &[
-        (Step::Text("foo"), "foo", 8),
-        (Step::Char('b'), "foob", 8),
-        (Step::Text("ar"), "foobar", 8),
-        (Step::Ascii(b'!'), "foobar!", 8),
-    ],
-    &[
-        (Step::Text("hello"), "hello", 8),
-        (Step::Times(b'!', 3), "hello!!!", 8),
-        (Step::Set(0, b'j'), "jello!!!", 8),
-    ],
-    &[
-        (Step::Room(3), "", 8),
-        (Step::Start(b'b'), "b", 8),
-        (Step::AsciiStart(b'a'), "ab", 8),
-        (Step::Bytes(b"ab"), "abab", 8),
-        (Step::End(b'a'), "ababa", 8),
-        (Step::Ascii(b'b'), "ababab", 8),
-        (Step::Room(2), "ababab", 8),
-        (Step::Room(3), "ababab", 16),
-        (Step::Room(20), "ababab", 36),
-    ],
+const BUILT: &[Row] = &[
+    (Step::New, "", 0),
+    (Step::Text("hé"), "hé", 8),
+    (Step::Times(46, 6), "hé......", 16),
+    (Step::AsciiStart(33), "!hé......", 16),
+    (Step::New, "", 0),
+    (Step::Text("foo"), "foo", 8),
+    (Step::Char('b'), "foob", 8),
+    (Step::Text("ar"), "foobar", 8),
+    (Step::Ascii(b'!'), "foobar!", 8),
+    (Step::New, "", 0),
+    (Step::Text("hello"), "hello", 8),
+    (Step::Times(b'!', 3), "hello!!!", 8),
+    (Step::Set(0, b'j'), "jello!!!", 8),
+    (Step::New, "", 0),
+    (Step::Room(3), "", 8),
+    (Step::Start(b'b'), "b", 8),
+    (Step::AsciiStart(b'a'), "ab", 8),
+    (Step::Bytes(b"ab"), "abab", 8),
+    (Step::End(b'a'), "ababa", 8),
+    (Step::Ascii(b'b'), "ababab", 8),
+    (Step::Room(2), "ababab", 8),
+    (Step::Room(3), "ababab", 16),
+    (Step::Room(20), "ababab", 36),
     // The first and last characters of two, three and four bytes.
-    &[
-        (Step::Char('\u{80}'), "\u{80}", 8),
-        (Step::Char('\u{7ff}'), "\u{80}\u{7ff}", 8),
-        (Step::Char('\u{800}'), "\u{80}\u{7ff}\u{800}", 8),
-    ],
-    &[
-        (Step::Char('\u{ffff}'), "\u{ffff}", 8),
-        (Step::Char('\u{10000}'), "\u{ffff}\u{10000}", 8),
-        (Step::Char('\u{10ffff}'), "\u{ffff}\u{10000}\u{10ffff}", 16),
-    ],
+    (Step::New, "", 0),
+    (Step::Char('\u{80}'), "\u{80}", 8),
+    (Step::Char('\u{7ff}'), "\u{80}\u{7ff}", 8),
+    (Step::Char('\u{800}'), "\u{80}\u{7ff}\u{800}", 8),
+    (Step::New, "", 0),
+    (Step::Char('\u{ffff}'), "\u{ffff}", 8),
+    (Step::Char('\u{10000}'), "\u{ffff}\u{10000}", 8),
+    (Step::Char('\u{10ffff}'), "\u{ffff}\u{10000}\u{10ffff}", 16),
 ];
 
 #[test]
 fn built(rt: HostRuntime) {
-    for rows in BUILT {
-        let mut text = StringBuilder::new_in();
-        runs(&rt, &mut ample(rt.alloc()), &mut text, rows);
+    let mut a = ample(rt.alloc());
+    let mut text = StringBuilder::new_in();
+    for row in BUILT {
+        takes(&rt, &mut a, &mut text, row, Ok(()));
     }
 }
 
@@ -205,16 +172,10 @@ const NO_ROOM: &[(u64, u64, AllocError)] = &[
 ];
 
 // Checks that no text with this capacity is made, and that one of three bytes doesn't get room for `more`.
-fn stays<C: ChunkSource>(
-    rt: &impl Abort,
-    a: &mut Allocator<C>,
-    room: u64,
-    more: u64,
-    why: AllocError,
-) {
-    same(rt, text_of(a, &Make::Room(room)).err(), Some(why));
-    let mut text = text_of(a, &Make::Text("abc")).expect(rt, "room");
-    takes(rt, a, &mut text, &Step::Room(more), Err(why), "abc", 3);
+fn stays(rt: &impl Abort, a: &mut Memory, room: u64, more: u64, why: AllocError) {
+    same(rt, text_of(a, &Room(room)).err(), Some(why));
+    let mut text = text_of(a, &Text("abc")).expect(rt, "room");
+    takes(rt, a, &mut text, &(Step::Room(more), "abc", 3), Err(why));
 }
 
 // A capacity of 17 bytes has no place in 16.

@@ -2,7 +2,8 @@
 ghost use Rattle.std.specs.Prelude.{◌≤◌, ◌^◌, IsTrue};
 ghost use Rattle.arena_vec.specs.Held.{IsRawIn};
 
-use arena_chunks::{Allocator, ChunkSource, Str};
+use crate::tests::Memory;
+use arena_chunks::Str;
 use arena_clone::{CloneIn, CloneInSemanticIds, Grown};
 use arena_items::{Box, Item};
 use arena_vec::{RawVec, Vec};
@@ -15,7 +16,7 @@ pub trait Checked: CloneIn {
         ensures { IsTrue result → Self.kind.is_small };
 
     // Whether the handles are well formed and readable.
-    fn is_held<C: ChunkSource>(&self, a: &Allocator<C>) -> bool
+    fn is_held(&self, a: &Memory) -> bool
         ensures { IsTrue result → Self.kind.is_held a.now.memory self.now };
 }
 
@@ -24,7 +25,7 @@ impl Checked for u32 {
         true
     }
 
-    fn is_held<C: ChunkSource>(&self, _a: &Allocator<C>) -> bool {
+    fn is_held(&self, _a: &Memory) -> bool {
         true
     }
 }
@@ -34,7 +35,7 @@ impl Checked for Str {
         true
     }
 
-    fn is_held<C: ChunkSource>(&self, a: &Allocator<C>) -> bool {
+    fn is_held(&self, a: &Memory) -> bool {
         a.is_held_place(self.block)
     }
 }
@@ -44,7 +45,7 @@ impl<T: Checked> Checked for Option<T> {
         T::is_small()
     }
 
-    fn is_held<C: ChunkSource>(&self, a: &Allocator<C>) -> bool {
+    fn is_held(&self, a: &Memory) -> bool {
         match self {
             Some(value) => value.is_held(a),
             None => true,
@@ -57,7 +58,7 @@ impl<T: Checked + Item> Checked for Box<T> {
         T::SIZE <= 1 << 24 && T::is_small()
     }
 
-    fn is_held<C: ChunkSource>(&self, a: &Allocator<C>) -> bool {
+    fn is_held(&self, a: &Memory) -> bool {
         if T::SIZE > 1 << 24 {
             return false;
         }
@@ -73,7 +74,7 @@ impl<T: Checked + Item> Checked for Vec<T> {
         T::SIZE <= 1 << 24 && T::is_small()
     }
 
-    fn is_held<C: ChunkSource>(&self, a: &Allocator<C>) -> bool {
+    fn is_held(&self, a: &Memory) -> bool {
         if T::SIZE > 1 << 24 || !is_raw_held(a, self.raw) {
             return false;
         }
@@ -87,7 +88,7 @@ impl<T: Checked + Item> Checked for Vec<T> {
 }
 
 // Whether a vector's storage is readable.
-pub fn is_raw_held<T: Item, C: ChunkSource>(a: &Allocator<C>, raw: RawVec<T>) -> bool
+pub fn is_raw_held<T: Item>(a: &Memory, raw: RawVec<T>) -> bool
     requires { T.SIZE ≤ 2 ^ 24 }
     ensures { IsTrue result → IsRawIn T.Item a.now.memory raw }
 {
@@ -98,30 +99,18 @@ pub fn is_raw_held<T: Item, C: ChunkSource>(a: &Allocator<C>, raw: RawVec<T>) ->
         && (T::SIZE > 0 || raw.cap == u32::MAX)
 }
 
-pub fn read<T: Item, C: ChunkSource>(rt: &impl Abort, a: &Allocator<C>, b: Box<T>) -> T {
+pub fn read<T: Item>(rt: &impl Abort, a: &Memory, b: Box<T>) -> T {
     assert!(rt; T::SIZE <= 1 << 24);
     get_checked(a, b).expect(rt, "a box that is held")
 }
 
-pub fn is_list<T: Item + PartialEq, C: ChunkSource>(
-    rt: &impl Abort,
-    a: &Allocator<C>,
-    list: Vec<T>,
-    values: &[T],
-) -> bool {
-    assert!(rt; T::SIZE <= 1 << 24);
+pub fn is_list(rt: &impl Abort, a: &Memory, list: Vec<u32>, values: &[u32]) -> bool {
     assert!(rt; is_raw_held(a, list.raw));
     list.eq_slice(a, values)
 }
 
 // Inserts a value in a list, before the one at the index.
-pub fn insert<T: Item, C: ChunkSource>(
-    rt: &impl Abort,
-    a: &mut Allocator<C>,
-    list: &mut Vec<T>,
-    i: u32,
-    value: T,
-) {
+pub fn insert<T: Item>(rt: &impl Abort, a: &mut Memory, list: &mut Vec<T>, i: u32, value: T) {
     assert!(rt; T::SIZE <= 1 << 24);
     assert!(rt; is_raw_held(a, list.raw));
     assert!(rt; i <= list.raw.len);
@@ -137,29 +126,17 @@ pub enum By {
 }
 
 // Copies a value into another arena.
-pub fn copy<T: Checked, C: ChunkSource, D: ChunkSource>(
+pub fn copy<T: Checked>(
     rt: &impl Abort,
     value: &T,
     by: &By,
-    from: &Allocator<C>,
-    to: &mut Allocator<D>,
+    from: &Memory,
+    to: &mut Memory,
 ) -> Grown<T> {
-    assert!(rt; T::is_small());
-    assert!(rt; value.is_held(from));
+    assert!(rt; T::is_small() && value.is_held(from));
     match by {
         By::CloneIn => value.clone_in(from, to),
         By::CloneInWithSemanticIds => value.clone_in_with_semantic_ids(from, to),
         By::CloneInImpl(ids) => value.clone_in_impl(*ids, from, to),
     }
-}
-
-pub fn copy_within<T: Checked, C: ChunkSource>(
-    rt: &impl Abort,
-    value: &T,
-    ids: CloneInSemanticIds,
-    a: &mut Allocator<C>,
-) -> T {
-    assert!(rt; T::is_small());
-    assert!(rt; value.is_held(a));
-    value.clone_within(ids, a).expect(rt, "a copy")
 }

@@ -6,8 +6,8 @@ ghost use Rattle.arena_clone.specs.MapKind.{map_of};
 ghost use Rattle.collection_tests.specs.Held.{IsKept};
 
 use super::checked::Checked;
-use crate::tests::ample;
-use arena_chunks::{Allocator, ChunkSource, MemoryChunks, Str};
+use crate::tests::{Memory, ample};
+use arena_chunks::Str;
 use arena_clone::{CloneIn, CloneInSemanticIds, CloneKey};
 use arena_hash::{ArenaKey, FxHasher, HashMap, KeyHasher};
 use arena_items::Item;
@@ -15,30 +15,8 @@ use std::alloc::Global;
 use std::marker::Model;
 use std::process::Abort;
 
-// Keys whose handles are checked before they are used.
-pub trait CheckedKey: CloneKey {
-    fn is_key_small() -> bool
-        ensures { IsTrue result → Self.CloneIn.kind.is_small };
-
-    fn is_key_held<C: ChunkSource>(&self, a: &Allocator<C>) -> bool
-        ensures { IsTrue result → Self.CloneIn.kind.is_held a.now.memory self.now };
-}
-
-impl CheckedKey for Str {
-    fn is_key_small() -> bool {
-        true
-    }
-
-    fn is_key_held<C: ChunkSource>(&self, a: &Allocator<C>) -> bool {
-        a.is_held_place(self.block)
-    }
-}
-
 // Whether the keys and values of a map are readable, at every depth.
-fn are_held<K: CheckedKey, V: Checked + Item, C: ChunkSource>(
-    map: &HashMap<K, V>,
-    a: &Allocator<C>,
-) -> bool
+fn are_held<K: CloneKey + Checked, V: Checked + Item>(map: &HashMap<K, V>, a: &Memory) -> bool
     requires { IsKept (kind K.Item K.key V.Item ⟦<FxHasher as KeyHasher>⟧.hash_of) a.now.memory map.now }
     ensures { IsTrue result → (map_of (kind K.Item K.key V.Item ⟦<FxHasher as KeyHasher>⟧.hash_of)
         ⟦<FxHasher as Default>⟧.is_default K.kind V.kind).is_held a.now.memory map.now }
@@ -47,7 +25,7 @@ fn are_held<K: CheckedKey, V: Checked + Item, C: ChunkSource>(
         let Some(pair) = map.pair_at(a, slot) else {
             continue;
         };
-        if !pair.0.is_key_held(a) || !pair.1.is_held(a) {
+        if !pair.0.is_held(a) || !pair.1.is_held(a) {
             return false;
         }
     }
@@ -57,7 +35,7 @@ fn are_held<K: CheckedKey, V: Checked + Item, C: ChunkSource>(
 // A map in an arena of its own, in which it is always held.
 #[derive(Drop)]
 pub struct Kept<K: ArenaKey, V: Item> {
-    a: Allocator<MemoryChunks>,
+    a: Memory,
     map: HashMap<K, V>,
 }
 
@@ -70,7 +48,7 @@ impl<K: ArenaKey, V: Item> Model for Kept<K, V> {
         (kind K.Item K.key V.Item ⟦<FxHasher as KeyHasher>⟧.hash_of) s.a.memory s.map };
 }
 
-impl<K: CheckedKey, V: Checked + Item> Kept<K, V> {
+impl<K: CloneKey + Checked, V: Checked + Item> Kept<K, V> {
     pub fn with_capacity(rt: &impl Abort, alloc: Global, capacity: u64) -> Kept<K, V> {
         assert!(rt; K::SIZE <= 1 << 24 && V::SIZE <= 1 << 24);
         let mut a = ample(alloc);
@@ -80,7 +58,7 @@ impl<K: CheckedKey, V: Checked + Item> Kept<K, V> {
 
     // A copy of the map in another arena.
     pub fn copied(&self, rt: &impl Abort, ids: CloneInSemanticIds, alloc: Global) -> Kept<K, V> {
-        assert!(rt; K::is_key_small() && V::is_small());
+        assert!(rt; K::is_small() && V::is_small());
         assert!(rt; are_held(&self.map, &self.a));
         let mut to = ample(alloc);
         let map = self

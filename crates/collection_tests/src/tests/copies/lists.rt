@@ -2,13 +2,12 @@
 // and exchange.
 use super::checked::{By, copy, insert, is_list, read};
 use crate::tests::texts::{Make, has, text_of};
-use crate::tests::{NO_CHUNK, NO_PLACE, ample, bits, fixed, limited, same};
-use arena_chunks::{Allocator, ChunkSource, Str};
+use crate::tests::{NO_CHUNK, NO_PLACE, ample, bits, fixed, limited, same, same_at};
+use arena_chunks::Str;
 use arena_clone::CloneInSemanticIds::{With, Without};
 use arena_clone::{CloneIn, Dummy, FromIn, IntoIn, SemanticId, TakeIn};
-use arena_items::{AllocError, Box};
+use arena_items::Box;
 use arena_vec::Vec;
-use std::process::Abort;
 use std::rt::HostRuntime;
 
 #[test]
@@ -47,26 +46,8 @@ fn a_set(rt: HostRuntime) {
 
 type Boxes = Vec<Option<Box<u32>>>;
 
-// Copies a list, with this error or none.
-fn copies<C: ChunkSource, D: ChunkSource>(
-    rt: &impl Abort,
-    list: &Boxes,
-    from: &Allocator<C>,
-    to: &mut Allocator<D>,
-    wanted: Option<AllocError>,
-) {
-    let copied = copy(rt, list, &By::CloneIn, from, to);
-    same(rt, copied.err(), wanted);
-}
-
 // The bytes of an arena, and the error of a copy into it. The copy takes 84 bytes: 40 for each of the two values, and
 // 4 for the box. So there is no place for the first block, or for the second one.
-const ROOMS: &[(usize, Option<AllocError>)] = &[
-    (0, Some(NO_PLACE)),
-    (80, Some(NO_PLACE)),
-    (96, None),
-];
-
 #[test]
 fn a_list_of_boxes(rt: HostRuntime) {
     let alloc = rt.alloc();
@@ -75,10 +56,13 @@ fn a_list_of_boxes(rt: HostRuntime) {
     let mut list: Boxes = Vec::new_in();
     insert(&rt, &mut from, &mut list, 0, boxed);
     insert(&rt, &mut from, &mut list, 1, None);
-    for (bytes, wanted) in ROOMS {
-        copies(&rt, &list, &from, &mut fixed(&rt, alloc, *bytes), *wanted);
+    for (bytes, wanted) in [(0, Some(NO_PLACE)), (80, Some(NO_PLACE)), (96, None)] {
+        let mut to = fixed(&rt, alloc, bytes);
+        let copied = copy(&rt, &list, &By::CloneIn, &from, &mut to);
+        same_at(&rt, bytes, copied.err(), wanted);
     }
-    copies(&rt, &list, &from, &mut limited(alloc, 0), Some(NO_CHUNK));
+    let copied = copy(&rt, &list, &By::CloneIn, &from, &mut limited(alloc, 0));
+    same(&rt, copied.err(), Some(NO_CHUNK));
 }
 
 #[test]

@@ -1,8 +1,8 @@
 // The Rust crate's own test cases of copies and of `replace_with`.
-use super::checked::{By, copy, copy_within, insert, is_list, is_raw_held};
+use super::checked::{By, Checked, copy, insert, is_list, is_raw_held};
 use super::kept::Kept;
-use crate::tests::{ample, same};
-use arena_chunks::{Allocator, ChunkSource, Str};
+use crate::tests::{Memory, ample, same};
+use arena_chunks::Str;
 use arena_clone::CloneInSemanticIds::{With, Without};
 use arena_clone::{CloneIn, ReplaceWith};
 use arena_items::BoxSlice;
@@ -10,12 +10,7 @@ use arena_vec::Vec;
 use std::process::Abort;
 use std::rt::HostRuntime;
 
-fn is_slice<C: ChunkSource>(
-    rt: &impl Abort,
-    a: &Allocator<C>,
-    slice: BoxSlice<u32>,
-    numbers: &[u32],
-) -> bool {
+fn is_slice(rt: &impl Abort, a: &Memory, slice: BoxSlice<u32>, numbers: &[u32]) -> bool {
     assert!(rt; a.is_held_place(slice.block) && slice.block.align == 4);
     assert!(rt; slice.length == numbers.len() as u64);
     assert!(rt; slice.length < 1 << 32);
@@ -59,26 +54,6 @@ fn copies_of_an_empty_boxed_slice(rt: HostRuntime) {
     assert!(rt; is_slice(&rt, &to, copied, &[]) && is_slice(&rt, &to, second, &[]));
 }
 
-// Copies a list by a call and within its arena, and then changes it.
-fn copies<C: ChunkSource, D: ChunkSource>(
-    rt: &impl Abort,
-    from: &mut Allocator<C>,
-    to: &mut Allocator<D>,
-    by: &By,
-) {
-    let mut original = Vec::with_capacity_in(8, from).expect(rt, "a list");
-    let grown = original.extend_from_slice(from, &[1u32, 2, 3]);
-    assert!(rt; grown.is_ok());
-    let copied = copy(rt, &original, by, from, to).expect(rt, "a copy");
-    let within = copy_within(rt, &original, With, from);
-    assert!(rt; is_raw_held(from, original.raw));
-    assert!(rt; 1 < original.raw.len);
-    original.set(from, 1, 4);
-    assert!(rt; is_list(rt, from, original, &[1, 4, 3]) && is_list(rt, from, within, &[1, 2, 3]));
-    assert!(rt; is_list(rt, to, copied, &[1, 2, 3]));
-    same(rt, (copied.capacity(), within.capacity()), (3, 3));
-}
-
 // The calls that copy into another arena.
 const BY: &[By] = &[
     By::CloneIn,
@@ -86,10 +61,22 @@ const BY: &[By] = &[
     By::CloneInImpl(With),
 ];
 
+// Copies a list by a call and within its arena, and then changes it.
 #[test]
 fn copies_of_a_list(rt: HostRuntime) {
     for by in BY {
-        copies(&rt, &mut ample(rt.alloc()), &mut ample(rt.alloc()), by);
+        let (mut from, mut to) = (ample(rt.alloc()), ample(rt.alloc()));
+        let mut original = Vec::with_capacity_in(8, &mut from).expect(&rt, "a list");
+        assert!(rt; original.extend_from_slice(&mut from, &[1u32, 2, 3]).is_ok());
+        let copied = copy(&rt, &original, by, &from, &mut to).expect(&rt, "a copy");
+        assert!(rt; <Vec<u32>>::is_small() && Checked::is_held(&original, &from));
+        let within = original.clone_within(With, &mut from).expect(&rt, "a copy");
+        assert!(rt; is_raw_held(&from, original.raw) && 1 < original.raw.len);
+        original.set(&mut from, 1, 4);
+        assert!(rt; is_list(&rt, &from, original, &[1, 4, 3]));
+        assert!(rt; is_list(&rt, &from, within, &[1, 2, 3]));
+        assert!(rt; is_list(&rt, &to, copied, &[1, 2, 3]));
+        same(&rt, (copied.capacity(), within.capacity()), (3, 3));
     }
 }
 

@@ -2,10 +2,9 @@
 // capacity, where the arena is full or gets no chunk. A hasher whose hash is always 0 changes no result.
 use super::Zero;
 use super::kept::{Kept, Numbers};
-use crate::tests::{NO_CHUNK, NO_PLACE, ample, fixed, limited, same, same_at};
-use arena_chunks::{Allocator, ChunkSource, MemoryChunks};
+use crate::tests::{Memory, NO_CHUNK, NO_PLACE, ample, fixed, limited, same, same_at};
 use arena_hash::{FxHasher, HashMap, KeyHasher};
-use arena_items::{AllocError, Grown};
+use arena_items::AllocError;
 use std::alloc::Global;
 use std::process::Abort;
 
@@ -34,16 +33,7 @@ const CLOSE: u32 = 1;
 
 const WIDE: u32 = 2_654_435_761;
 
-// Checks that the map has the pairs with odd numbers and no others.
-fn has_odd<S: KeyHasher + Copy>(rt: &impl Abort, map: &Numbers<S>, n: u32, step: u32) {
-    for i in 0..n {
-        let wanted = if i % 2 == 0 { None } else { Some(i) };
-        assert!(rt; map.get(i.wrapping_mul(step)) == wanted);
-    }
-    same(rt, map.len(), n / 2);
-}
-
-// Inserts n pairs, and removes those with even numbers.
+// Inserts n pairs, and removes those with even numbers. Then the map has those with odd numbers and no others.
 fn halved<S: KeyHasher + Copy>(rt: &impl Abort, alloc: Global, n: u32, step: u32) {
     let mut map: Numbers<S> = Kept::new(ample(alloc));
     for i in 0..n {
@@ -53,7 +43,11 @@ fn halved<S: KeyHasher + Copy>(rt: &impl Abort, alloc: Global, n: u32, step: u32
     for i in (0..n).step_by(2) {
         assert!(rt; map.remove(i.wrapping_mul(step)) == Some(i));
     }
-    has_odd(rt, &map, n, step);
+    for i in 0..n {
+        let wanted = if i % 2 == 0 { None } else { Some(i) };
+        assert!(rt; map.get(i.wrapping_mul(step)) == wanted);
+    }
+    same(rt, map.len(), n / 2);
 }
 
 // No clause bounds the time that a million pairs take.
@@ -64,12 +58,8 @@ fn many_pairs(rt: HostRuntime) {
     halved::<FxHasher>(&rt, rt.alloc(), 1_000_000, WIDE);
 }
 
-// The bytes of the arena, and the number of pairs for which it has room. A table of 16 slots has 16 * 9 bytes and
-// room for 8 pairs, and the next one has twice as many. The earlier tables stay in the arena.
-const GROWTHS: &[(usize, u32)] = &[(128, 0), (144, 8), (144 + 288, 16)];
-
 // Checks that a pair is refused after `pairs` pairs of an iterator, and that no further one is taken from it.
-fn stops(rt: &impl Abort, a: Allocator<MemoryChunks>, pairs: u32, why: AllocError) {
+fn stops(rt: &impl Abort, a: Memory, pairs: u32, why: AllocError) {
     let mut map: Numbers<FxHasher> = Kept::new(a);
     let mut keys = (0..100u32).zip(0..100u32);
     same_at(rt, pairs, map.collect(&mut keys), Err(why));
@@ -77,39 +67,30 @@ fn stops(rt: &impl Abort, a: Allocator<MemoryChunks>, pairs: u32, why: AllocErro
     same_at(rt, pairs, keys.next(), Some((next, next)));
 }
 
+// The bytes of the arena, and the number of pairs for which it has room. A table of 16 slots has 16 * 9 bytes and
+// room for 8 pairs, and the next one has twice as many. The earlier tables stay in the arena.
 #[test]
 fn full_at_each_growth(rt: HostRuntime) {
-    for (bytes, pairs) in GROWTHS {
-        stops(&rt, fixed(&rt, rt.alloc(), *bytes), *pairs, NO_PLACE);
+    for (bytes, pairs) in [(128, 0), (144, 8), (144 + 288, 16)] {
+        stops(&rt, fixed(&rt, rt.alloc(), bytes), pairs, NO_PLACE);
     }
     stops(&rt, limited(rt.alloc(), 0), 0, NO_CHUNK);
 }
 
-// A capacity, and the error if there is no room for it in 288 bytes.
-const CAPACITIES: &[(u64, Option<AllocError>)] = &[
-    (0, None),
-    (3, None),
-    (17, Some(NO_PLACE)),
-    (1 << 32, Some(AllocError::CapacityOverflow)),
-];
-
-// Makes an empty map of this capacity, and then one with a given hasher.
-fn has_room<C: ChunkSource>(
-    rt: &impl Abort,
-    a: &mut Allocator<C>,
-    capacity: u64,
-    failed: Option<AllocError>,
-) {
-    let made: Grown<HashMap<u32, u32>> = HashMap::with_capacity_in(capacity, a);
-    same_at(rt, capacity, made.err(), failed);
-    let hasher = FxHasher::default();
-    let made: Grown<HashMap<u32, u32>> = HashMap::with_capacity_and_hasher_in(capacity, hasher, a);
-    same_at(rt, capacity, made.err(), failed);
-}
-
+// A capacity, and the error if there is no room for it in 288 bytes: of an empty map, and of one with a given hasher.
 #[test]
 fn capacities(rt: HostRuntime) {
-    for (capacity, failed) in CAPACITIES {
-        has_room(&rt, &mut fixed(&rt, rt.alloc(), 288), *capacity, *failed);
+    for (capacity, failed) in [
+        (0, None),
+        (3, None),
+        (17, Some(NO_PLACE)),
+        (1 << 32, Some(AllocError::CapacityOverflow)),
+    ] {
+        let mut a = fixed(&rt, rt.alloc(), 288);
+        let made = <HashMap<u32, u32>>::with_capacity_in(capacity, &mut a);
+        same_at(&rt, capacity, made.err(), failed);
+        let hasher = FxHasher::default();
+        let made = <HashMap<u32, u32>>::with_capacity_and_hasher_in(capacity, hasher, &mut a);
+        same_at(&rt, capacity, made.err(), failed);
     }
 }

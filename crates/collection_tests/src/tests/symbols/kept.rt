@@ -3,6 +3,7 @@ ghost use Rattle.arena_symbols.specs.Named.{AreNames};
 ghost use Rattle.arena_symbols.specs.Names.{IsInternerIn};
 ghost use Rattle.arena_symbols.specs.Tables.{entry_item, IsTableIn};
 
+use crate::tests::Memory;
 use arena_chunks::{Allocator, ChunkSource};
 use arena_items::{AllocError, Grown};
 use arena_symbols::{Call, Names, Reply, Scopes, Symbols};
@@ -97,12 +98,12 @@ impl<C: ChunkSource> Nest<C> {
 }
 
 #[derive(Drop)]
-pub(super) struct Both<C: ChunkSource> {
-    a: Allocator<C>,
+pub(super) struct Both {
+    a: Memory,
     names: Names,
 }
 
-impl<C: ChunkSource> Model for Both<C> {
+impl Model for Both {
     ghost Value = { Unit {0} };
 
     ghost view = { λ s. tt };
@@ -110,8 +111,8 @@ impl<C: ChunkSource> Model for Both<C> {
     ghost invariant = { λ s. AreNames s.a.memory s.names };
 }
 
-impl<C: ChunkSource> Both<C> {
-    pub(super) fn new(a: Allocator<C>) -> Both<C> {
+impl Both {
+    pub(super) fn new(a: Memory) -> Both {
         let names = Names::new_in();
         Both { a, names }
     }

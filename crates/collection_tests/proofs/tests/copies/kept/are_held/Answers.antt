@@ -14,7 +14,7 @@ pub loop-slot-preserved : goal.loop-slot-preserved
 loop-slot-preserved g c =
     held_next ((pair_of g.K.CloneIn.kind g.V.CloneIn.kind).is_held c.args.a.now.memory)
     (slots_in g.K.Item g.V.Item c.args.a.now.memory c.args.map.now.table) c.loop-slot.slot (Some c.in-Some.pair)
-    c.in-Some.ensures (c.is_key_held.ensures c.if-not-is_key_held.false, c.is_held.ensures c.if-not-is_held.false)
+    c.in-Some.ensures (c.is_held.ensures c.if-not-is_held.false, c.is_held-else-not-is_held.ensures c.if-not-is_held-2.false)
     c.loop-slot.invariant
 
 pub returns : goal.returns
