@@ -6,73 +6,52 @@ ghost use Rattle.arena_pool.specs.declared.kind.PoolKind.{PoolKind};
 mod pools;
 mod workers;
 
-use arena_chunks::MemoryChunks;
-use arena_pool::{AllocatorPool, ChunkMaker, PoolKind, PoolName};
-use std::alloc::Global;
+use arena_pool::{AllocatorPool, Counts, MemoryMaker, PoolKind, PoolName};
+use std::alloc::{Alloc, Global};
 use std::fmt::Display;
 use std::process::Abort;
-use std::sync::atomic::{AtomicU64, Ordering};
+use std::sync::Wait;
 use std::sync::ledger::Blank;
 use std::test::*;
+use std::thread::Threads;
 
-/// Makes sources of a megabyte each, and counts them.
-#[derive(Drop)]
-struct Counted<'a> {
-    alloc: Global,
-    made: &'a AtomicU64,
-}
+/// The handle of a test.
+trait Rt: Threads + Wait + Abort + Alloc<A = Global> + Sync {}
 
-impl ChunkMaker for Counted<'_> {
-    type Chunks = MemoryChunks;
-
-    fn make(&mut self) -> MemoryChunks {
-        self.made.fetch_add(1, Ordering::SeqCst);
-        MemoryChunks::new(self.alloc, 1 << 20)
-    }
-}
+impl<R: Threads + Wait + Abort + Alloc<A = Global> + Sync> Rt for R {}
 
 /// The pool to make: its kind, its limit, and the number of its arenas at first.
-#[derive(Clone, Copy)]
-struct Plan {
-    kind: PoolKind,
-    limit: Option<u64>,
-    arenas: u32,
-}
+type Plan = (PoolKind, Option<u64>, u32);
 
-fn plan_of(kind: PoolKind, limit: Option<u64>, arenas: u32) -> Plan
-    ensures kind { result.kind ≡ kind }
-    ensures limit { result.limit ≡ limit }
-{
-    Plan {
-        kind,
-        limit,
-        arenas,
-    }
-}
+type Pool<L> = AllocatorPool<MemoryMaker, L>;
 
 // Makes the planned pool, with the name `L`.
-fn pool_of<K: ChunkMaker + Drop, L: PoolName, R: Abort>(
-    rt: &R,
-    alloc: Global,
-    plan: Plan,
-    maker: K,
-    blank: Blank,
-) -> AllocatorPool<K, L>
+fn pool_of<L: PoolName>(rt: &impl Rt, plan: Plan, blank: Blank) -> Pool<L>
     requires blank { IsBlankOf L.name L.parts blank }
-    requires kind { L.kind ≡ plan.kind }
-    requires limit { L.limit ≡ plan.limit }
+    requires kind { L.kind ≡ plan.0 }
+    requires limit { L.limit ≡ plan.1 }
 {
-    let pool = match (plan.kind, plan.limit) {
-        (PoolKind::Standard, None) => AllocatorPool::new(alloc, plan.arenas, maker, blank),
+    let (alloc, (kind, limit, arenas)) = (rt.alloc(), plan);
+    let maker = MemoryMaker::new(alloc, 1 << 20);
+    let pool = match (kind, limit) {
+        (PoolKind::Standard, None) => AllocatorPool::new(alloc, arenas, maker, blank),
         (PoolKind::Standard, Some(limit)) => {
-            AllocatorPool::new_with_limit(alloc, plan.arenas, limit, maker, blank)
+            AllocatorPool::new_with_limit(alloc, arenas, limit, maker, blank)
         }
         (PoolKind::FixedSize { bytes }, limit) => {
             assert!(rt; bytes % 16 == 0 && bytes >= 48 && limit.is_none());
-            AllocatorPool::new_fixed_size(alloc, plan.arenas, bytes, maker, blank)
+            AllocatorPool::new_fixed_size(alloc, arenas, bytes, maker, blank)
         }
     };
     pool.ok().expect(rt, "a pool")
+}
+
+// The four counts of a pool, in the order made, stored, lent, given up.
+type All = (u64, u64, u64, u64);
+
+fn are_counts(rt: &impl Abort, counts: Counts, all: All) {
+    let found = (counts.made, counts.stored, counts.lent, counts.given_up);
+    assert_eq!(rt; found, all);
 }
 
 // Fails the test, with `what` as the message, unless the condition holds.
@@ -80,8 +59,8 @@ fn holds(rt: &impl Abort, so: bool, what: &str) {
     assert!(rt; so, "{what}");
 }
 
-fn says<E: Display>(rt: &impl Abort, alloc: Global, error: &E, text: &str) -> Result<(), Fail> {
-    let said = format!(in alloc; "{error}")?;
+fn says<E: Display>(rt: &impl Rt, error: &E, text: &str) -> Result<(), Fail> {
+    let said = format!(in rt.alloc(); "{error}")?;
     assert!(rt; said.as_str() == text);
     Ok(())
 }

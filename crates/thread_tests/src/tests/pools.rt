@@ -12,7 +12,7 @@ mod threads;
 use arena_chunks::{Allocator, ChunkSource};
 use arena_place::Layout;
 use arena_pool::laws::kinds;
-use arena_pool::{Counts, OutOfMemory, PoolKind};
+use arena_pool::{OutOfMemory, PoolKind};
 use std::process::Abort;
 use std::sync::Wait;
 use std::sync::atomic::{AtomicU64, Ordering};
@@ -24,16 +24,6 @@ const MARKED: u64 = 32;
 
 /// Arenas over regions with room for 64 bytes.
 const SMALL: PoolKind = PoolKind::FixedSize { bytes: 112 };
-
-// The four counts of a pool, in the order made, stored, lent, given up.
-type All = (u64, u64, u64, u64);
-
-fn are_counts(rt: &impl Abort, counts: Counts, all: All) {
-    let found = (counts.made, counts.stored, counts.lent, counts.given_up);
-    if found != all {
-        panic!(rt; "{found:?} in place of {all:?}");
-    }
-}
 
 /// The values that threads place in arenas and read back.
 const VALUES: [u64; 8] = [3, 1, 4, 1, 5, 9, 2, 6];
@@ -48,7 +38,7 @@ fn are_values(rt: &impl Abort, back: Result<Vec<Option<u64>>, OutOfMemory>) {
     assert!(rt; are_same && back.len() == VALUES.len());
 }
 
-fn wait_until<R: Wait>(rt: &R, stage: &AtomicU64, least: u64) {
+fn wait_until(rt: &impl Wait, stage: &AtomicU64, least: u64) {
     for _ in rt.forever() {
         if stage.load(Ordering::SeqCst) >= least {
             break;

@@ -1,18 +1,20 @@
 // Helpers for the tests of workers: scripts by their numbers, and how they end.
 mod crowds;
 mod gates;
-mod over;
 mod stages;
 mod twice;
 
-use arena_chunks::ChunkSource;
-use arena_pool::Counts;
+use super::{Pool, Rt};
+use arena_chunks::MemoryChunks;
+use arena_pool::{Counts, PoolName};
 use arena_rules::OutOfMemory;
+use arena_script::Job;
 use script_rules::{Command, Ended, Script};
-use script_workers::Served;
+use script_workers::{Gate, run_scripts};
 use std::alloc::Global;
-use std::process::Abort;
 use std::test::*;
+
+type Served = script_workers::Served<MemoryChunks>;
 
 /// A number of bits for which no arena here has room: they take 536,870,912 bytes.
 const VAST: u32 = u32::MAX;
@@ -45,16 +47,20 @@ fn is_vast(number: usize, vast: usize) -> bool {
 }
 
 // Whether a script ended `done`. Its replies are then those that it has alone, by contract.
-fn is_done<C: ChunkSource>(served: &Served<C>) -> bool {
+fn is_done(served: &Served) -> bool {
     served.outcome.ended == Ended::Done && served.starved.is_none()
 }
 
-// Fails the test unless the script ended as it should.
-fn is_right(rt: &impl Abort, so: bool, number: usize) {
-    assert!(rt; so, "script {number}");
-}
-
-// Checks that none of a pool's arenas is lent, and the number that were given up.
-fn are_at_rest(rt: &impl Abort, counts: Counts, given_up: usize) {
-    assert_eq!(rt; (counts.lent, counts.given_up), (0, given_up as u64));
+// Runs scripts over a pool. Returns the outcome of each, and the pool's counts after that.
+fn run_over<L: PoolName + Send + Sync>(
+    rt: &impl Rt,
+    pool: &Pool<L>,
+    workers: u32,
+    gate: &(impl Gate + Sync),
+    job: &(impl Job<MemoryChunks> + Sync),
+    scripts: &[Script],
+) -> (Vec<Served>, Counts) {
+    assert!(rt; workers > 0 && workers <= 64 && scripts.len() < 1 << 20);
+    let ran = run_scripts(rt, rt.alloc(), pool, workers, gate, job, scripts);
+    (ran.ok().expect(rt, "outcomes"), pool.counts(rt))
 }

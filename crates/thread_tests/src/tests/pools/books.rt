@@ -1,114 +1,88 @@
 // Tests of books: how they are made, and one that lends its only arena twice.
 ghost use Rattle.std.specs.Prelude.{◌≡◌};
 ghost use Rattle.arena_pool.specs.Kinds.{HasId, IsOfKind};
+ghost use Rattle.thread_tests.specs.declared.tests.pools.TheConstants.{SMALL};
 
-use super::{SMALL, are_counts, marks};
-use crate::tests::{Plan, plan_of, says};
+use super::{SMALL, marks};
+use crate::tests::{Plan, Rt, are_counts, says};
 use arena_chunks::{Allocator, MemoryChunks};
 use arena_pool::laws::{events, puts};
 use arena_pool::{Book, ClaimErr, MemoryMaker, PoolErr, PoolKind};
-use std::alloc::Global;
 use std::process::Abort;
 use std::test::*;
 
-// An arena that a book of this kind lent.
+// An arena that a book of small arenas lent.
 #[derive(Drop)]
 struct Lent {
     arena: Allocator<MemoryChunks>,
     id: Option<u32>,
-    kind: PoolKind,
-    ghost of_kind: { IsOfKind kind arena.memory.state },
-    ghost has_id: { HasId kind id },
+    ghost of_kind: { IsOfKind SMALL arena.memory.state },
+    ghost has_id: { HasId SMALL id },
 }
 
-fn book_of(rt: &impl Abort, alloc: Global, plan: Plan) -> Book<MemoryMaker>
-    ensures { result.kind ≡ plan.kind }
+fn book_of(rt: &impl Rt, plan: Plan) -> Book<MemoryMaker>
+    ensures { result.kind ≡ plan.0 }
 {
+    let (alloc, (kind, limit, arenas)) = (rt.alloc(), plan);
     let maker = MemoryMaker::new(alloc, 1 << 20);
-    let book = match (plan.kind, plan.limit) {
-        (PoolKind::Standard, None) => Book::new(alloc, plan.arenas, maker),
-        (PoolKind::Standard, Some(limit)) => Book::new_with_limit(alloc, plan.arenas, limit, maker),
+    let book = match (kind, limit) {
+        (PoolKind::Standard, None) => Book::new(alloc, arenas, maker),
+        (PoolKind::Standard, Some(limit)) => Book::new_with_limit(alloc, arenas, limit, maker),
         (PoolKind::FixedSize { bytes }, limit) => {
             assert!(rt; bytes % 16 == 0 && bytes >= 48 && limit.is_none());
-            Book::new_fixed(alloc, plan.arenas, bytes, maker)
+            Book::new_fixed(alloc, arenas, bytes, maker)
         }
     };
-    match book {
-        Ok(book) => book,
-        Err(_) => panic!(rt; "a book"),
-    }
+    book.ok().expect(rt, "a book")
 }
 
 #[tactic(auto, using(arena_pool::proofs::Layers::event_laws))]
-fn lend(book: &mut Book<MemoryMaker>, kind: PoolKind) -> Result<Lent, PoolErr>
-    requires { book.old.kind ≡ kind }
-    ensures { book.new.kind ≡ kind }
+fn lend(book: &mut Book<MemoryMaker>) -> Result<Lent, PoolErr>
+    requires { book.old.kind ≡ SMALL }
+    ensures { book.new.kind ≡ SMALL }
 {
     events();
     let (arena, id) = book.take()?;
-    Ok(Lent { arena, id, kind })
+    Ok(Lent { arena, id })
 }
 
 #[tactic(auto, using(arena_pool::proofs::Layers::event_laws))]
-fn store(rt: &impl Abort, book: &mut Book<MemoryMaker>, kind: PoolKind, lent: Lent)
-    requires { book.old.kind ≡ kind }
-    ensures { book.new.kind ≡ kind }
+fn store(rt: &impl Abort, book: &mut Book<MemoryMaker>, lent: Lent)
+    requires { book.old.kind ≡ SMALL }
+    ensures { book.new.kind ≡ SMALL }
 {
     puts();
-    assert!(rt; lent.kind == kind && book.counts().lent > 0);
+    assert!(rt; book.counts().lent > 0);
     book.store(lent.arena, lent.id);
 }
 
-// Checks that an empty arena with this id and this capacity is lent, and marks it.
-fn lends(
-    rt: &impl Abort,
-    book: &mut Book<MemoryMaker>,
-    kind: PoolKind,
-    wanted: Option<u32>,
-    capacity: u64,
-) -> Lent
-    requires { book.old.kind ≡ kind }
-    ensures { book.new.kind ≡ kind }
+// Checks that an empty arena with id 0 and 64 bytes is lent, and marks it.
+fn lends(rt: &impl Abort, book: &mut Book<MemoryMaker>) -> Lent
+    requires { book.old.kind ≡ SMALL }
+    ensures { book.new.kind ≡ SMALL }
 {
-    let lent = lend(book, kind).ok().expect(rt, "an arena");
-    let Lent {
-        mut arena,
-        id,
-        kind,
-    } = lent;
-    assert!(rt; id == wanted);
-    assert_eq!(rt; arena.capacity(), capacity);
+    let Lent { mut arena, id } = lend(book).ok().expect(rt, "an arena");
+    assert!(rt; id == Some(0));
+    assert_eq!(rt; arena.capacity(), 64);
     assert!(rt; marks(&mut arena, 7));
-    Lent { arena, id, kind }
-}
-
-// Checks that no arena is lent, and the error.
-fn refuses(rt: &impl Abort, book: &mut Book<MemoryMaker>, kind: PoolKind, why: PoolErr)
-    requires { book.old.kind ≡ kind }
-    ensures { book.new.kind ≡ kind }
-{
-    match lend(book, kind) {
-        Ok(_) => panic!(rt; "no arena"),
-        Err(e) => assert_eq!(rt; e, why),
-    }
+    Lent { arena, id }
 }
 
 #[test]
 fn one_arena_is_lent_again(rt: HostRuntime) {
-    let plan = plan_of(SMALL, None, 1);
-    let mut book = book_of(&rt, rt.alloc(), plan);
-    let lent = lends(&rt, &mut book, plan.kind, Some(0), 64);
-    refuses(&rt, &mut book, plan.kind, PoolErr::PoolEmpty);
+    let mut book = book_of(&rt, (SMALL, None, 1));
+    let lent = lends(&rt, &mut book);
+    assert!(rt; lend(&mut book).err() == Some(PoolErr::PoolEmpty));
     are_counts(&rt, book.counts(), (1, 0, 1, 0));
-    store(&rt, &mut book, plan.kind, lent);
+    store(&rt, &mut book, lent);
     are_counts(&rt, book.counts(), (1, 1, 0, 0));
-    let _ = lends(&rt, &mut book, plan.kind, Some(0), 64);
+    let _ = lends(&rt, &mut book);
 }
 
 #[test]
 fn new_books(rt: HostRuntime) {
     for limit in [None, Some(16320)] {
-        let book = book_of(&rt, rt.alloc(), plan_of(PoolKind::Standard, limit, 2));
+        let book = book_of(&rt, (PoolKind::Standard, limit, 2));
         assert!(rt; book.limit() == limit);
         are_counts(&rt, book.counts(), (2, 2, 0, 0));
     }
@@ -123,8 +97,8 @@ fn a_region_that_no_memory_has(rt: HostRuntime) {
 
 #[test]
 fn errors_say_their_texts(rt: HostRuntime) -> Result<(), Fail> {
-    says(&rt, rt.alloc(), &PoolErr::PoolEmpty, "pool is empty")?;
-    says(&rt, rt.alloc(), &PoolErr::OutOfMemory, "out of memory")?;
-    says(&rt, rt.alloc(), &PoolErr::Limit, "pool limit reached")?;
-    says(&rt, rt.alloc(), &ClaimErr::OutOfMemory, "out of memory")
+    says(&rt, &PoolErr::PoolEmpty, "pool is empty")?;
+    says(&rt, &PoolErr::OutOfMemory, "out of memory")?;
+    says(&rt, &PoolErr::Limit, "pool limit reached")?;
+    says(&rt, &ClaimErr::OutOfMemory, "out of memory")
 }

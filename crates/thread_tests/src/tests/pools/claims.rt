@@ -2,14 +2,13 @@
 ghost use Rattle.std.specs.Prelude.{◌≡◌, ◌<◌, ◌≤◌, [], ◌∷◌, All, IfOk};
 ghost use Rattle.arena_pool.specs.Claiming.{new_view};
 
-use crate::tests::holds;
+use crate::tests::{Rt, holds};
 use arena_pool::{ClaimErr, ClaimSeat, Claims};
 use example_collections::{claim_all, claim_by_two};
 use std::alloc::Global;
 use std::process::Abort;
 use std::test::*;
 use std::thread;
-use std::thread::Threads;
 
 const WORKERS: usize = 64;
 
@@ -24,13 +23,9 @@ fn claimed_once(rt: &impl Abort, claims: &Claims, seat: &mut ClaimSeat)
     ensures table { seat.new.table ≡ claims.now }
     ensures list { seat.new.view.claimed ≡ 0 ∷ [] }
 {
-    if !claims.claim(seat, 0) {
-        panic!(rt; "a word that is free");
-    }
+    assert!(rt; claims.claim(seat, 0), "a word that is free");
     let mut other = claims.split(seat);
-    if claims.claim(&mut other, 0) {
-        panic!(rt; "a word that is taken");
-    }
+    assert!(rt; !claims.claim(&mut other, 0), "a word that is taken");
     claims.join(seat, other);
 }
 
@@ -87,7 +82,8 @@ fn seats(alloc: Global, claims: &Claims, seat: ClaimSeat) -> Result<Vec<ClaimSea
 }
 
 // Each worker tries to claim all words. Returns what each of them claimed.
-fn crowd<R: Threads + Abort + Sync>(rt: &R, alloc: Global) -> Vec<Result<Vec<u32>, ClaimErr>> {
+fn crowd(rt: &impl Rt) -> Vec<Result<Vec<u32>, ClaimErr>> {
+    let alloc = rt.alloc();
     let (claims, seat) = Claims::new(alloc, WORDS).ok().expect(rt, "claims");
     let seats = seats(alloc, &claims, seat).ok().expect(rt, "seats");
     let claimed = thread::map_vec(
@@ -117,7 +113,7 @@ fn count(counts: &mut [u8], words: &[u32]) -> bool {
 #[test]
 fn threads_claim_each_word_once(rt: HostRuntime) {
     let mut counts = vec![in rt.alloc(); 0u8; WORDS as usize].expect(&rt, "counts");
-    for claimed in crowd(&rt, rt.alloc()) {
+    for claimed in crowd(&rt) {
         let words = claimed.ok().expect(&rt, "words");
         assert!(rt; count(&mut counts, &words));
     }

@@ -1,35 +1,21 @@
 // Tests of guards, one after another and three at once.
-ghost use Rattle.std.specs.Prelude.{◌≡◌, None};
+ghost use Rattle.std.specs.Prelude.{◌≡◌};
 ghost use Rattle.arena_pool.specs.Kinds.{IsOfKind};
 ghost use Rattle.arena_pool.specs.Names.{IsBlankOf};
 ghost use Rattle.arena_pool.specs.declared.kind.PoolKind.{PoolKind};
 
-use super::{All, SMALL, are_counts, places};
-use crate::tests::{Plan, holds, plan_of, pool_of};
+use super::{SMALL, places};
+use crate::tests::{All, Plan, Pool, Rt, are_counts, holds, pool_of};
 use arena_chunks::{Allocator, ChunkSource};
 use arena_place::Layout;
-use arena_pool::{
-    AllocatorGuard, AllocatorPool, ChunkMaker, MOST_LENT, MemoryMaker, PoolKind, PoolName,
-};
-use std::alloc::Global;
+use arena_pool::{AllocatorGuard, MOST_LENT, MemoryMaker, PoolKind, PoolName};
 use std::marker::Brand;
-use std::process::Abort;
-use std::sync::Wait;
 use std::sync::ledger::Blank;
 use std::test::*;
 
-fn has_counts<K: ChunkMaker, L: PoolName, R: Wait + Abort>(
-    rt: &R,
-    pool: &AllocatorPool<K, L>,
-    counts: All,
-) {
-    are_counts(rt, pool.counts(rt), counts);
-}
+type Guard<'a, L> = AllocatorGuard<'a, MemoryMaker, L>;
 
-fn lent<'a, K: ChunkMaker, L: PoolName, R: Wait + Abort>(
-    rt: &R,
-    pool: &'a AllocatorPool<K, L>,
-) -> AllocatorGuard<'a, K, L>
+fn lent<'a, L: PoolName>(rt: &impl Rt, pool: &'a Pool<L>) -> Guard<'a, L>
     ensures { IsOfKind L.kind result.0.memory.state }
 {
     pool.get(rt).ok().expect(rt, "an arena")
@@ -39,7 +25,7 @@ fn lent<'a, K: ChunkMaker, L: PoolName, R: Wait + Abort>(
 // after one of a byte, whether it is given up, and the pool's counts while the guard is held and after that.
 type Borrow = (Option<u32>, u64, Option<u64>, bool, All, All);
 
-fn id_of<K: ChunkMaker, L: PoolName>(guard: &AllocatorGuard<'_, K, L>) -> Option<u32> {
+fn id_of<L: PoolName>(guard: &Guard<'_, L>) -> Option<u32> {
     guard.fixed_size_metadata().map(|metadata| metadata.id)
 }
 
@@ -57,7 +43,7 @@ fn has_places<C: ChunkSource>(a: &mut Allocator<C>, row: &Borrow) -> bool
 }
 
 // Whether a guard has the row's id, and its arena has these places.
-fn is_lent<K: ChunkMaker, L: PoolName>(guard: &mut AllocatorGuard<'_, K, L>, row: &Borrow) -> bool
+fn is_lent<L: PoolName>(guard: &mut Guard<'_, L>, row: &Borrow) -> bool
     requires { IsOfKind L.kind guard.old.0.memory.state }
     ensures { IsOfKind L.kind guard.new.0.memory.state }
 {
@@ -65,25 +51,28 @@ fn is_lent<K: ChunkMaker, L: PoolName>(guard: &mut AllocatorGuard<'_, K, L>, row
     has_places(guard.parts_mut(), row) && has_id
 }
 
-fn lend_once<K: ChunkMaker, L: PoolName, R: Wait + Abort>(
-    rt: &R,
-    pool: &AllocatorPool<K, L>,
-    row: &Borrow,
-) {
-    let (_, _, _, gives_up, held, after) = *row;
-    let mut guard = lent(rt, pool);
-    has_counts(rt, pool, held);
-    holds(rt, is_lent(&mut guard, row), "id, bytes and blocks");
-    if gives_up {
-        let _ = guard.give_up(rt);
-    } else {
-        guard.put_back(rt);
+fn borrows_of<L: PoolName>(rt: &impl Rt, plan: Plan, rows: &[Borrow], blank: Blank)
+    requires blank { IsBlankOf L.name L.parts blank }
+    requires kind { L.kind ≡ plan.0 }
+    requires limit { L.limit ≡ plan.1 }
+{
+    let pool = pool_of::<L>(rt, plan, blank);
+    for row in rows {
+        let (_, _, _, gives_up, held, after) = *row;
+        let mut guard = lent(rt, &pool);
+        are_counts(rt, pool.counts(rt), held);
+        holds(rt, is_lent(&mut guard, row), "id, bytes and blocks");
+        if gives_up {
+            let _ = guard.give_up(rt);
+        } else {
+            guard.put_back(rt);
+        }
+        are_counts(rt, pool.counts(rt), after);
     }
-    has_counts(rt, pool, after);
 }
 
-// The kind and the limit of each pool, its arenas at first, and the borrows.
-const BORROWS: &[((PoolKind, Option<u64>, u32), &[Borrow])] = &[
+// Each pool, and the borrows.
+const BORROWS: &[(Plan, &[Borrow])] = &[
     (
         (SMALL, None, 1),
         &[
@@ -107,28 +96,10 @@ const BORROWS: &[((PoolKind, Option<u64>, u32), &[Borrow])] = &[
     ),
 ];
 
-fn borrows_of<L: PoolName, R: Wait + Abort>(
-    rt: &R,
-    alloc: Global,
-    plan: Plan,
-    rows: &[Borrow],
-    blank: Blank,
-)
-    requires blank { IsBlankOf L.name L.parts blank }
-    requires kind { L.kind ≡ plan.kind }
-    requires limit { L.limit ≡ plan.limit }
-{
-    let pool = pool_of::<_, L, R>(rt, alloc, plan, MemoryMaker::new(alloc, 1 << 20), blank);
-    for row in rows {
-        lend_once(rt, &pool, row);
-    }
-}
-
 #[test]
 fn borrows(rt: HostRuntime) {
-    for ((kind, limit, arenas), rows) in BORROWS {
-        let plan = plan_of(*kind, *limit, *arenas);
-        borrows_of::<Brand, _>(&rt, rt.alloc(), plan, rows, Blank::new(MOST_LENT));
+    for (plan, rows) in BORROWS {
+        borrows_of::<Brand>(&rt, *plan, rows, Blank::new(MOST_LENT));
     }
 }
 
@@ -145,7 +116,7 @@ fn leave<C: ChunkSource>(a: &mut Allocator<C>, mark: u8) -> Option<u8>
 
 // Returns the id of a guard as a bit if its arena has the byte that this id leaves, or 0 the first time; otherwise
 // returns 0.
-fn id_bit<K: ChunkMaker, L: PoolName>(guard: &mut AllocatorGuard<'_, K, L>, is_first: bool) -> u32
+fn id_bit<L: PoolName>(guard: &mut Guard<'_, L>, is_first: bool) -> u32
     requires { IsOfKind L.kind guard.old.0.memory.state }
     ensures { IsOfKind L.kind guard.new.0.memory.state }
 {
@@ -161,11 +132,7 @@ fn id_bit<K: ChunkMaker, L: PoolName>(guard: &mut AllocatorGuard<'_, K, L>, is_f
 }
 
 // Returns the ids of three guards that are held at once, as bits. They are given back in another order.
-fn ids_of_three<K: ChunkMaker, L: PoolName, R: Wait + Abort>(
-    rt: &R,
-    pool: &AllocatorPool<K, L>,
-    is_first: bool,
-) -> u32 {
+fn ids_of_three<L: PoolName>(rt: &impl Rt, pool: &Pool<L>, is_first: bool) -> u32 {
     let mut first = lent(rt, pool);
     let mut second = lent(rt, pool);
     let mut third = lent(rt, pool);
@@ -178,18 +145,12 @@ fn ids_of_three<K: ChunkMaker, L: PoolName, R: Wait + Abort>(
     ids
 }
 
-fn guards_of_three<L: PoolName, R: Wait + Abort>(
-    rt: &R,
-    alloc: Global,
-    kind: PoolKind,
-    blank: Blank,
-)
+fn guards_of_three<L: PoolName>(rt: &impl Rt, plan: Plan, blank: Blank)
     requires blank { IsBlankOf L.name L.parts blank }
-    requires kind { L.kind ≡ kind }
-    requires limit { L.limit ≡ None }
+    requires kind { L.kind ≡ plan.0 }
+    requires limit { L.limit ≡ plan.1 }
 {
-    let maker = MemoryMaker::new(alloc, 1 << 20);
-    let pool = pool_of::<_, L, R>(rt, alloc, plan_of(kind, None, 3), maker, blank);
+    let pool = pool_of::<L>(rt, plan, blank);
     for round in 0..3 {
         holds(rt, ids_of_three(rt, &pool, round == 0) == 7, "three ids");
     }
@@ -197,5 +158,5 @@ fn guards_of_three<L: PoolName, R: Wait + Abort>(
 
 #[test]
 fn guards_that_are_held_at_once(rt: HostRuntime) {
-    guards_of_three::<Brand, _>(&rt, rt.alloc(), SMALL, Blank::new(MOST_LENT));
+    guards_of_three::<Brand>(&rt, (SMALL, None, 3), Blank::new(MOST_LENT));
 }
