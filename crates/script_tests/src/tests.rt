@@ -16,8 +16,8 @@ fn holds(rt: &impl Abort, is_so: bool, row: &str) {
     assert!(rt; is_so, "{row:?}");
 }
 
-fn script_of(alloc: Global, table: &Table) -> Result<Script, Fail> {
-    let mut scripts = parse_scripts(alloc, table.script.as_bytes())?;
+fn script_of(alloc: Global, text: &str) -> Result<Script, Fail> {
+    let mut scripts = parse_scripts(alloc, text.as_bytes())?;
     Ok(scripts.pop().ok_or("no script")?)
 }
 
@@ -37,7 +37,7 @@ fn told(rt: &impl Abort, alloc: Global, table: &Table, replies: Replies) -> Resu
 #[test]
 fn each_command_has_its_reply_and_its_cost(rt: HostRuntime) -> Result<(), Fail> {
     for table in TABLES {
-        let script = script_of(rt.alloc(), table)?;
+        let script = script_of(rt.alloc(), table.script)?;
         let run = PlainScripts::run(rt.alloc(), &script)?;
         holds(&rt, run.costs.as_slice() == table.costs, table.script);
         told(&rt, rt.alloc(), table, run.replies)?;

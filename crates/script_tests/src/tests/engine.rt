@@ -6,28 +6,20 @@ ghost use Rattle.arena_rules.specs.State.{used_bytes};
 use super::tables::{A_LIST_AND_A_TEXT, TABLES};
 use super::{script_of, told};
 use crate::tests::holds;
-use arena_chunks::{Allocator, ChunkSource, MemoryChunks};
+use arena_chunks::{Allocator, MemoryChunks};
 use arena_rules::OutOfMemory;
 use arena_script::run_script;
-use script_lines::parse_scripts;
-use script_rules::{Ended, Outcome, Script};
+use script_rules::Ended;
 use std::alloc::Global;
-use std::process::Abort;
 use std::test::Fail;
-
-fn in_arena<C: ChunkSource + Drop>(alloc: Global, mut a: Allocator<C>, script: &Script) -> Outcome
-    requires { used_bytes a.memory.state ≡ 0 }
-{
-    run_script(alloc, &mut a, script)
-}
 
 #[test]
 fn each_table_is_served_in_an_arena_that_grows(rt: HostRuntime) -> Result<(), Fail> {
     let alloc = rt.alloc();
     for table in TABLES {
-        let script = script_of(alloc, table)?;
-        let a = Allocator::new(alloc, MemoryChunks::new(alloc, 1 << 20));
-        let outcome = in_arena(alloc, a, &script);
+        let script = script_of(alloc, table.script)?;
+        let mut a = Allocator::new(alloc, MemoryChunks::new(alloc, 1 << 20));
+        let outcome = run_script(alloc, &mut a, &script);
         holds(&rt, outcome.ended == Ended::Done, table.script);
         told(&rt, alloc, table, outcome.replies)?;
     }
@@ -39,9 +31,9 @@ fn each_table_is_served_in_an_arena_that_grows(rt: HostRuntime) -> Result<(), Fa
 #[test]
 fn a_list_and_a_text_use_16_bytes(rt: HostRuntime) -> Result<(), Fail> {
     let alloc = rt.alloc();
-    let script = script_of(alloc, &A_LIST_AND_A_TEXT)?;
-    let a = Allocator::new(alloc, MemoryChunks::new(alloc, 1 << 20));
-    let outcome = in_arena(alloc, a, &script);
+    let script = script_of(alloc, A_LIST_AND_A_TEXT.script)?;
+    let mut a = Allocator::new(alloc, MemoryChunks::new(alloc, 1 << 20));
+    let outcome = run_script(alloc, &mut a, &script);
     holds(&rt, outcome.used == 16, "16 bytes");
     Ok(())
 }
@@ -50,12 +42,9 @@ fn a_list_and_a_text_use_16_bytes(rt: HostRuntime) -> Result<(), Fail> {
 fn fixed(alloc: Global, step: u16) -> Result<Allocator<MemoryChunks>, OutOfMemory>
     ensures { IfOk result (λ a. used_bytes a.memory.state ≡ 0) }
 {
-    let Ok(region) = vec![in alloc; 0u8; 16 * (step as usize + 3)] else {
-        return Err(OutOfMemory);
-    };
-    let Ok(a) = Allocator::from_raw_parts(alloc, region, MemoryChunks::new(alloc, 0)) else {
-        return Err(OutOfMemory);
-    };
+    let region = vec![in alloc; 0u8; 16 * (step as usize + 3)]?;
+    let made = Allocator::from_raw_parts(alloc, region, MemoryChunks::new(alloc, 0));
+    let a = made.map_err(|_| OutOfMemory)?;
     if a.used_bytes() != 0 {
         return Err(OutOfMemory);
     }
@@ -82,30 +71,17 @@ const ROWS: &[Row] = &[
     ("script\nmap 0\nbind 0 1 1\ncopy 0 1\n", 14, 2),
 ];
 
-// Checks how a script ends in `steps` steps of 16 bytes, and the number of its replies.
-fn ends_so(
-    rt: &impl Abort,
-    alloc: Global,
-    script: &Script,
-    steps: u16,
-    (ended, served): (Ended, usize),
-) -> Result<(), Fail> {
-    let outcome = in_arena(alloc, fixed(alloc, steps)?, script);
-    holds(rt, outcome.ended == ended, "how it ends");
-    holds(rt, outcome.replies.as_slice().len() == served, "replies");
-    Ok(())
-}
-
 #[test]
 fn a_script_is_served_where_its_blocks_have_place(rt: HostRuntime) -> Result<(), Fail> {
     let alloc = rt.alloc();
     for (text, steps, served) in ROWS {
-        let mut scripts = parse_scripts(alloc, text.as_bytes())?;
-        let script = scripts.pop().ok_or("no script")?;
-        let all = script.as_slice().len();
-        ends_so(&rt, alloc, &script, *steps, (Ended::Done, all))?;
-        let fewer = steps.saturating_sub(1);
-        ends_so(&rt, alloc, &script, fewer, (Ended::Full, *served))?;
+        let script = script_of(alloc, text)?;
+        let (all, fewer) = (script.as_slice().len(), steps.saturating_sub(1));
+        for (steps, ended, served) in [(*steps, Ended::Done, all), (fewer, Ended::Full, *served)] {
+            let outcome = run_script(alloc, &mut fixed(alloc, steps)?, &script);
+            holds(&rt, outcome.ended == ended, text);
+            holds(&rt, outcome.replies.as_slice().len() == served, text);
+        }
     }
     Ok(())
 }

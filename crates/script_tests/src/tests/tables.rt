@@ -1,6 +1,7 @@
 // Tables of scripts, with their replies and the costs of their commands.
 
 // A script, the text of its outcome, and the cost of each command.
+#[derive(Drop)]
 pub(super) struct Table {
     pub(super) script: &'static str,
     pub(super) text: &'static str,
