@@ -5,9 +5,16 @@ mod reports;
 mod trees;
 
 use arena_chunks::{Allocator, MemoryChunks, RefusingChunks};
-use std::alloc::Global;
+use std::alloc::{Alloc, Global};
 use std::fmt::Debug;
 use std::process::Abort;
+use std::sync::Wait;
+use std::thread::Threads;
+
+/// The handle of a test.
+trait Rt: Threads + Wait + Abort + Alloc<A = Global> + Sync {}
+
+impl<R: Threads + Wait + Abort + Alloc<A = Global> + Sync> Rt for R {}
 
 // A text in parts, each with the number of its repetitions.
 type Parts<'a> = &'a [(&'a [u8], u32)];
@@ -24,8 +31,8 @@ fn same_at<A: Copy + Debug, T: Copy + PartialEq + Debug>(
     }
 }
 
-fn text_of(rt: &impl Abort, alloc: Global, parts: Parts<'_>) -> Vec<u8> {
-    let mut text = Vec::new(alloc);
+fn text_of(rt: &impl Rt, parts: Parts<'_>) -> Vec<u8> {
+    let mut text = Vec::new(rt.alloc());
     for (part, count) in parts {
         for _ in 0..*count {
             text.extend_from_slice(part).expect(rt, "memory");
@@ -34,23 +41,21 @@ fn text_of(rt: &impl Abort, alloc: Global, parts: Parts<'_>) -> Vec<u8> {
     text
 }
 
-fn ample(alloc: Global) -> Allocator<MemoryChunks> {
-    Allocator::new(alloc, MemoryChunks::new(alloc, 1 << 31))
+fn ample(rt: &impl Rt) -> Allocator<MemoryChunks> {
+    Allocator::new(rt.alloc(), MemoryChunks::new(rt.alloc(), 1 << 31))
 }
 
 // An allocator over `bytes` bytes, a multiple of 16, that requests no chunk.
-fn fixed(rt: &impl Abort, alloc: Global, bytes: usize) -> Allocator<MemoryChunks> {
+fn fixed(rt: &impl Rt, bytes: usize) -> Allocator<MemoryChunks> {
     assert!(rt; bytes < 1 << 20 && bytes % 16 == 0);
+    let alloc = rt.alloc();
     let region = vec![in alloc; 7; bytes + 48].expect(rt, "bytes");
-    match Allocator::from_raw_parts(alloc, region, MemoryChunks::new(alloc, 0)) {
-        Ok(a) => a,
-        Err(_) => panic!(rt; "an allocator"),
-    }
+    let a = Allocator::from_raw_parts(alloc, region, MemoryChunks::new(alloc, 0));
+    a.ok().expect(rt, "an allocator")
 }
 
 // A source of chunks that refuses one request. The first request has number 1.
-fn refusing(alloc: Global, number: u64) -> RefusingChunks {
-    let mut refuse = Vec::new(alloc);
-    let _ = refuse.push(number);
-    RefusingChunks::new(alloc, refuse)
+fn refusing(rt: &impl Rt, number: u64) -> RefusingChunks {
+    let refuse = vec![in rt.alloc(); number].expect(rt, "a number");
+    RefusingChunks::new(rt.alloc(), refuse)
 }

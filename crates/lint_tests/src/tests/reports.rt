@@ -1,10 +1,8 @@
 // Tests of where an input is split into sources, and of the lines of reports. Expected values are worked out by hand
 // from the format.
-use super::same_at;
-use arena_rules::OutOfMemory;
+use super::{Rt, same_at};
 use lint_reports::{FileReport, put_report, sources_of};
-use std::alloc::{AllocError, Global};
-use std::process::Abort;
+use std::alloc::Global;
 use std::test::Fail;
 
 // Inputs, and their sources, separated by bars.
@@ -20,13 +18,9 @@ const INPUTS: &[(&str, &str)] = &[
     ("%%%\n%\n%", "%%%\n%\n%"),
 ];
 
-pub(super) fn ok<T>(answer: Result<T, OutOfMemory>) -> Result<T, Fail> {
-    Ok(answer.map_err(|_| AllocError)?)
-}
-
 // Checks the lines of a report, as that of source 0.
-pub(super) fn reported(rt: &impl Abort, alloc: Global, report: &FileReport, lines: &str) {
-    let mut text = Vec::new(alloc);
+pub(super) fn reported(rt: &impl Rt, report: &FileReport, lines: &str) {
+    let mut text = Vec::new(rt.alloc());
     put_report(&mut text, 0, report).ok().expect(rt, "memory");
     same_at(rt, lines, text.as_slice(), lines.as_bytes());
 }
@@ -35,7 +29,7 @@ pub(super) fn reported(rt: &impl Abort, alloc: Global, report: &FileReport, line
 fn cut(alloc: Global, input: &str) -> Result<Vec<u8>, Fail> {
     let mut text = Vec::new(alloc);
     let mut first = true;
-    for source in ok(sources_of(alloc, input.as_bytes()))? {
+    for source in sources_of(alloc, input.as_bytes())? {
         if !first {
             text.push(b'|')?;
         }
@@ -56,10 +50,11 @@ fn inputs_are_cut_at_marks(rt: HostRuntime) -> Result<(), Fail> {
 
 #[test]
 fn a_far_place_and_want_of_memory(rt: HostRuntime) {
-    let alloc = rt.alloc();
     let far = FileReport::Syntax { at: u64::MAX };
-    let lines = "source 0\nsyntax error at 18446744073709551615\n";
-    reported(&rt, alloc, &far, lines);
-    let lines = "source 0\nout of memory\n";
-    reported(&rt, alloc, &FileReport::OutOfMemory, lines);
+    reported(
+        &rt,
+        &far,
+        "source 0\nsyntax error at 18446744073709551615\n",
+    );
+    reported(&rt, &FileReport::OutOfMemory, "source 0\nout of memory\n");
 }

@@ -7,48 +7,37 @@ mod kept;
 mod placed;
 mod plain;
 
+use super::{Rt, ample};
 use crate::{set_out, set_out_folded};
-use arena_chunks::{Allocator, ChunkSource, MemoryChunks};
+use arena_chunks::{Allocator, ChunkSource};
 use arena_tree::{Tree, TreeErr};
 use call_rules::Bytes;
-use std::alloc::Global;
 use std::process::Abort;
 
 const SAMPLE: &[u8] = b"let x = 1+2*3 - -y;";
 
 // Returns why a text gets no tree in an arena.
-fn refused_in<C: ChunkSource>(
-    rt: &impl Abort,
-    a: &mut Allocator<C>,
-    src: &[u8],
-) -> Option<TreeErr> {
+fn refused_in(rt: &impl Abort, a: &mut Allocator<impl ChunkSource>, src: &[u8]) -> Option<TreeErr> {
     assert!(rt; src.len() <= 1 << 24);
     Tree::parse(a, src).err()
 }
 
 // Returns why it gets none in one pass.
-fn stopped_in<C: ChunkSource>(
-    rt: &impl Abort,
-    a: &mut Allocator<C>,
-    src: &[u8],
-) -> Option<TreeErr> {
+fn stopped_in(rt: &impl Abort, a: &mut Allocator<impl ChunkSource>, src: &[u8]) -> Option<TreeErr> {
     assert!(rt; src.len() <= 1 << 24);
     Tree::parse_in_one_pass(a, src).err()
 }
 
-// Returns the text of a program's tree in an arena.
-fn shown(rt: &impl Abort, alloc: Global, a: &mut Allocator<MemoryChunks>, src: &[u8]) -> Bytes {
+// Returns the text of a program's tree.
+fn shown(rt: &impl Rt, src: &[u8]) -> Bytes {
     assert!(rt; src.len() <= 1 << 24);
-    set_out(alloc, a, src).ok().expect(rt, "a program")
+    let text = set_out(rt.alloc(), &mut ample(rt), src);
+    text.ok().expect(rt, "a program")
 }
 
 // Returns the text of a program's folded tree, and the number of nodes that were folded.
-fn shown_folded(
-    rt: &impl Abort,
-    alloc: Global,
-    a: &mut Allocator<MemoryChunks>,
-    src: &[u8],
-) -> (Bytes, u64) {
+fn shown_folded(rt: &impl Rt, src: &[u8]) -> (Bytes, u64) {
     assert!(rt; src.len() <= 1 << 24);
-    set_out_folded(alloc, a, src).ok().expect(rt, "a program")
+    let folded = set_out_folded(rt.alloc(), &mut ample(rt), src);
+    folded.ok().expect(rt, "a program")
 }

@@ -12,7 +12,7 @@ use std::thread;
 const TURNS: u32 = 1_000_000;
 
 /// Holds the first source until the second is finished, and records that it is.
-#[derive(Drop)]
+#[derive(Drop, Default)]
 struct FirstAfterSecond {
     finished: AtomicU64,
     seen: AtomicU64,
@@ -43,12 +43,9 @@ const TWO: Over = (PoolKind::Standard, 2, 2);
 
 #[test]
 fn two_workers_lint_at_once(rt: HostRuntime) -> Result<(), Fail> {
-    let gate = FirstAfterSecond {
-        finished: AtomicU64::new(0),
-        seen: AtomicU64::new(0),
-    };
+    let gate = FirstAfterSecond::default();
     let maker = MemoryMaker::new(rt.alloc(), 1 << 20);
-    let told = linted_over(&rt, rt.alloc(), TWO, maker, &gate, PAIR.as_bytes())?;
+    let told = linted_over(&rt, TWO, maker, &gate, PAIR.as_bytes())?;
     assert!(rt; told.as_slice() == PAIR_LINES.as_bytes());
     assert!(rt; gate.seen.load(Ordering::SeqCst) == 1);
     Ok(())

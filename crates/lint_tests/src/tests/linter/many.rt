@@ -39,7 +39,7 @@ const POOLS: &[Over] = &[
 fn ten_thousand_sources_by_64_workers(rt: HostRuntime) -> Result<(), Fail> {
     let (input, lines) = ten_thousand(rt.alloc())?;
     for over in POOLS {
-        tells(&rt, rt.alloc(), *over, 1 << 20, &input, &lines)?;
+        tells(&rt, *over, 1 << 20, &input, &lines)?;
     }
     Ok(())
 }
@@ -49,12 +49,8 @@ const LINE: &[u8] = b"{ let name = (b + 1234567890) * 123456789012 - -1234567890
 
 #[test]
 fn a_source_of_a_megabyte(rt: HostRuntime) -> Result<(), Fail> {
-    let input = text_of(&rt, rt.alloc(), &[(LINE, 16384)]);
-    let lines = text_of(
-        &rt,
-        rt.alloc(),
-        &[(b"source 0\n", 1), (b"undefined b\n", 16384)],
-    );
+    let input = text_of(&rt, &[(LINE, 16384)]);
+    let lines = text_of(&rt, &[(b"source 0\n", 1), (b"undefined b\n", 16384)]);
     assert!(rt; input.len() == 1 << 20);
-    tells(&rt, rt.alloc(), ALONE, 1 << 30, &input, &lines)
+    tells(&rt, ALONE, 1 << 30, &input, &lines)
 }

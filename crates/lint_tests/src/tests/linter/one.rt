@@ -1,10 +1,8 @@
 // Tests of texts, each of which is linted alone in an arena.
 use super::super::reports::reported;
-use super::super::{ample, fixed, same_at};
+use super::super::{Rt, ample, fixed, same_at};
 use arena_chunks::{Allocator, MemoryChunks};
 use arena_lint::{lint_one, lint_text};
-use std::alloc::Global;
-use std::process::Abort;
 
 // Texts, and the lines of their reports as those of source 0.
 const TEXTS: &[(&str, &str)] = &[
@@ -39,29 +37,22 @@ const TEXTS: &[(&str, &str)] = &[
 ];
 
 // Checks the lines of a text's report in an empty arena.
-fn linted(
-    rt: &impl Abort,
-    alloc: Global,
-    a: &mut Allocator<MemoryChunks>,
-    text: &str,
-    lines: &str,
-) {
+fn linted(rt: &impl Rt, a: &mut Allocator<MemoryChunks>, text: &str, lines: &str) {
     let text = text.as_bytes();
     assert!(rt; a.used_bytes() == 0 && text.len() <= 1 << 24);
-    let report = lint_one(alloc, a, text);
-    reported(rt, alloc, &report, lines);
+    reported(rt, &lint_one(rt.alloc(), a, text), lines);
     a.reset();
     assert!(rt; a.used_bytes() == 0);
-    let (told, refused) = lint_text(alloc, a, text, 0).ok().expect(rt, "memory");
+    let (told, refused) = lint_text(rt.alloc(), a, text, 0).ok().expect(rt, "memory");
     same_at(rt, lines, told.as_slice(), lines.as_bytes());
     assert!(rt; !refused);
 }
 
 #[test]
 fn each_text_on_one_arena(rt: HostRuntime) {
-    let mut a = ample(rt.alloc());
+    let mut a = ample(&rt);
     for (text, lines) in TEXTS {
-        linted(&rt, rt.alloc(), &mut a, text, lines);
+        linted(&rt, &mut a, text, lines);
         a.reset();
     }
 }
@@ -71,9 +62,9 @@ fn each_text_on_one_arena(rt: HostRuntime) {
 #[test]
 fn refused_at_its_end_in_any_arena(rt: HostRuntime) {
     for bytes in 0..64 {
-        let mut a = fixed(&rt, rt.alloc(), bytes * 16);
+        let mut a = fixed(&rt, bytes * 16);
         let wanted = "source 0\nsyntax error at 17\n";
-        linted(&rt, rt.alloc(), &mut a, "let x = a*(b+1-c)", wanted);
+        linted(&rt, &mut a, "let x = a*(b+1-c)", wanted);
     }
 }
 
@@ -83,7 +74,7 @@ fn full_below_992_bytes(rt: HostRuntime) {
     let full = "source 0\nfull\n";
     let found = "source 0\nundefined a\nundefined b\nundefined c\n";
     for (bytes, wanted) in [(976, full), (4096, found)] {
-        let mut a = fixed(&rt, rt.alloc(), bytes);
-        linted(&rt, rt.alloc(), &mut a, "let x = a*(b+1-c);", wanted);
+        let mut a = fixed(&rt, bytes);
+        linted(&rt, &mut a, "let x = a*(b+1-c);", wanted);
     }
 }

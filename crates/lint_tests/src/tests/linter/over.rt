@@ -3,20 +3,17 @@ ghost use Rattle.std.specs.Prelude.{◌≡◌, ◌≤◌, ◌^◌, All, IsTrue, 
 ghost use Rattle.arena_pool.specs.Names.{IsBlankOf};
 ghost use Rattle.arena_pool.specs.declared.kind.PoolKind.{PoolKind};
 
-use super::super::reports::ok;
-use super::super::same_at;
+use super::super::{Rt, same_at};
 use arena_chunks::ChunkSource;
 use arena_lint::{Gate, Linted, NoGate, lint_all};
 use arena_pool::{AllocatorPool, ChunkMaker, MOST_LENT, MemoryMaker, PoolKind, PoolName};
 use call_rules::Bytes;
 use lint_reports::{Source, put_report, sources_of};
-use std::alloc::{AllocError, Global};
+use std::alloc::{Alloc, Global};
 use std::marker::Brand;
 use std::process::Abort;
-use std::sync::Wait;
 use std::sync::ledger::Blank;
 use std::test::*;
-use std::thread::Threads;
 
 /// The pool's kind, its arenas, and the number of workers.
 pub type Over = (PoolKind, u32, u32);
@@ -39,8 +36,7 @@ fn owned(alloc: Global, sources: &[Source<'_>]) -> Result<Vec<Bytes>, Fail>
 {
     let mut all = Vec::new(alloc);
     for source in sources {
-        let bytes = Bytes::of(alloc, source.as_slice()).map_err(|_| AllocError)?;
-        all.push(bytes)?;
+        all.push(Bytes::of(alloc, source.as_slice())?)?;
     }
     Ok(all)
 }
@@ -48,27 +44,22 @@ fn owned(alloc: Global, sources: &[Source<'_>]) -> Result<Vec<Bytes>, Fail>
 fn lines_of<C: ChunkSource>(alloc: Global, all: &[Linted<C>]) -> Result<Vec<u8>, Fail> {
     let mut text = Vec::new(alloc);
     for (i, linted) in all.iter().enumerate() {
-        ok(put_report(&mut text, i as u64, &linted.report))?;
+        put_report(&mut text, i as u64, &linted.report)?;
     }
     Ok(text)
 }
 
 // Returns the lines of the sources' reports over a pool. After that all arenas are given back, except those of starved
 // sources.
-fn lint_with<
-    K: ChunkMaker + Drop + Send,
-    L: PoolName + Send + Sync,
-    R: Threads + Wait + Abort + Sync,
-    G: Gate + Sync,
->(
-    rt: &R,
-    alloc: Global,
+fn lint_with<K: ChunkMaker + Drop + Send, L: PoolName + Send + Sync>(
+    rt: &impl Rt,
     pool: &AllocatorPool<K, L>,
     workers: u32,
-    gate: &G,
+    gate: &(impl Gate + Sync),
     input: &[u8],
 ) -> Result<Vec<u8>, Fail> {
-    let sources = ok(sources_of(alloc, input))?;
+    let alloc = rt.alloc();
+    let sources = sources_of(alloc, input)?;
     assert!(rt; workers > 0 && workers <= 64);
     assert!(rt; sources.len() < 1 << 20 && are_short(&sources));
     let linted = lint_all(rt, alloc, pool, workers, gate, &owned(alloc, &sources)?);
@@ -80,17 +71,11 @@ fn lint_with<
 }
 
 // The pool is named by `L`, which occurs in no type of the signature.
-fn lint_named<
-    L: PoolName + Send + Sync,
-    K: ChunkMaker + Drop + Send,
-    R: Threads + Wait + Abort + Sync,
-    G: Gate + Sync,
->(
-    rt: &R,
-    alloc: Global,
+fn lint_named<L: PoolName + Send + Sync, K: ChunkMaker + Drop + Send>(
+    rt: &impl Rt,
     over: Over,
     maker: K,
-    gate: &G,
+    gate: &(impl Gate + Sync),
     input: &[u8],
     blank: Blank,
 ) -> Result<Vec<u8>, Fail>
@@ -100,41 +85,36 @@ fn lint_named<
 {
     let (kind, arenas, workers) = over;
     let made = match kind {
-        PoolKind::Standard => AllocatorPool::<K, L>::new(alloc, arenas, maker, blank),
+        PoolKind::Standard => AllocatorPool::<K, L>::new(rt.alloc(), arenas, maker, blank),
         PoolKind::FixedSize { bytes } => {
             assert!(rt; bytes % 16 == 0 && bytes >= 48);
-            AllocatorPool::new_fixed_size(alloc, arenas, bytes, maker, blank)
+            AllocatorPool::new_fixed_size(rt.alloc(), arenas, bytes, maker, blank)
         }
     };
-    let pool = made.ok().expect(rt, "a pool");
-    lint_with(rt, alloc, &pool, workers, gate, input)
+    lint_with(rt, &made.ok().expect(rt, "a pool"), workers, gate, input)
 }
 
 /// Returns the lines of the reports of an input's sources over a new pool.
-pub fn linted_over<K: ChunkMaker + Drop + Send, R: Threads + Wait + Abort + Sync, G: Gate + Sync>(
-    rt: &R,
-    alloc: Global,
+pub(super) fn linted_over<K: ChunkMaker + Drop + Send>(
+    rt: &impl Rt,
     over: Over,
     maker: K,
-    gate: &G,
+    gate: &(impl Gate + Sync),
     input: &[u8],
 ) -> Result<Vec<u8>, Fail> {
-    let blank = Blank::new(MOST_LENT);
-    lint_named::<Brand, K, R, G>(rt, alloc, over, maker, gate, input, blank)
+    lint_named::<Brand, K>(rt, over, maker, gate, input, Blank::new(MOST_LENT))
 }
 
 /// Checks the lines of an input's reports, if each arena's source of chunks has this budget.
-pub fn tells<R: Threads + Wait + Abort + Sync>(
-    rt: &R,
-    alloc: Global,
+pub(super) fn tells(
+    rt: &impl Rt,
     over: Over,
     budget: u64,
     input: &[u8],
     lines: &[u8],
 ) -> Result<(), Fail> {
-    let maker = MemoryMaker::new(alloc, budget);
-    let told = linted_over(rt, alloc, over, maker, &NoGate, input)?;
-    let is_so = told.as_slice() == lines;
-    same_at(rt, (over.2, budget), is_so, true);
+    let maker = MemoryMaker::new(rt.alloc(), budget);
+    let told = linted_over(rt, over, maker, &NoGate, input)?;
+    same_at(rt, (over.2, budget), told.as_slice() == lines, true);
     Ok(())
 }

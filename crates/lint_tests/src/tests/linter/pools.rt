@@ -38,7 +38,7 @@ fn reports_by_few_workers_and_many(rt: HostRuntime) -> Result<(), Fail> {
     for (kind, arenas, workers, input, lines) in ROWS {
         let over = (*kind, *arenas, *workers);
         let (input, lines) = (input.as_bytes(), lines.as_bytes());
-        tells(&rt, rt.alloc(), over, 1 << 20, input, lines)?;
+        tells(&rt, over, 1 << 20, input, lines)?;
     }
     Ok(())
 }

@@ -17,7 +17,7 @@ const BEGUN: u64 = 1;
 const ASKED: u64 = 2;
 
 /// The stage of the only worker, the number of events out of order, and the number of finished sources.
-#[derive(Drop)]
+#[derive(Drop, Default)]
 struct Stage {
     at: AtomicU64,
     mixed_up: AtomicU64,
@@ -102,17 +102,9 @@ fn each_source_in_its_turn(rt: HostRuntime) -> Result<(), Fail> {
         (b"\n%%\n", 1),
         (b"1;", 2000),
     ];
-    let input = text_of(&rt, rt.alloc(), parts);
-    let stage = Stage {
-        at: AtomicU64::new(IDLE),
-        mixed_up: AtomicU64::new(0),
-        finished: AtomicU64::new(0),
-    };
-    let maker = Maker {
-        alloc: rt.alloc(),
-        stage: &stage,
-    };
-    let told = linted_over(&rt, rt.alloc(), ALONE, maker, &stage, &input)?;
+    let input = text_of(&rt, parts);
+    let (alloc, stage) = (rt.alloc(), &Stage::default());
+    let told = linted_over(&rt, ALONE, Maker { alloc, stage }, stage, &input)?;
     assert!(rt; told.as_slice() == b"source 0\nsource 1\nsource 2\n".as_slice());
     assert!(rt; stage.is_over(3));
     Ok(())

@@ -36,11 +36,10 @@ const BUDGETS: &[(u64, u32, &str)] = &[
 
 #[test]
 fn budgets(rt: HostRuntime) -> Result<(), Fail> {
-    let input = text_of(&rt, rt.alloc(), INPUT);
+    let input = text_of(&rt, INPUT);
     for (budget, workers, lines) in BUDGETS {
         let over = (PoolKind::Standard, 1, *workers);
-        let lines = lines.as_bytes();
-        tells(&rt, rt.alloc(), over, *budget, &input, lines)?;
+        tells(&rt, over, *budget, &input, lines.as_bytes())?;
     }
     Ok(())
 }

@@ -10,11 +10,10 @@ const SECOND: &[u8] = b"a; let a = 1; let a = 2;";
 // An arena with 4096 bytes for each byte of the longer text, and 4096 more.
 #[test]
 fn two_texts_on_one_arena(rt: HostRuntime) {
-    let alloc = rt.alloc();
-    let mut a = fixed(&rt, alloc, 102_400);
+    let mut a = fixed(&rt, 102_400);
     assert!(rt; !a.is_growing() && a.used_bytes() == 0 && a.capacity() >= 4096 * 25);
     assert!(rt; FIRST.len() == 10 && SECOND.len() == 24);
-    let (one, two) = lint_two(alloc, &mut a, FIRST, SECOND);
-    reported(&rt, alloc, &one, "source 0\nundefined b\n");
-    reported(&rt, alloc, &two, "source 0\nundefined a\nredefined a\n");
+    let (one, two) = lint_two(rt.alloc(), &mut a, FIRST, SECOND);
+    reported(&rt, &one, "source 0\nundefined b\n");
+    reported(&rt, &two, "source 0\nundefined a\nredefined a\n");
 }

@@ -1,8 +1,6 @@
 // Tests of folded trees: the number of folded nodes, and the text after that.
-use super::super::{Parts, ample, text_of};
+use super::super::{Parts, Rt, text_of};
 use super::{SAMPLE, shown_folded};
-use std::alloc::Global;
-use std::process::Abort;
 
 /// A text, the number of its nodes that are folded, and the text of its tree after that.
 type Row = (&'static [u8], u64, &'static [u8]);
@@ -29,15 +27,15 @@ const FOLDED: &[Row] = &[
     ),
 ];
 
-fn folded(rt: &impl Abort, alloc: Global, src: &[u8], count: u64, wanted: &[u8]) {
-    let (out, folds) = shown_folded(rt, alloc, &mut ample(alloc), src);
+fn folded(rt: &impl Rt, src: &[u8], count: u64, wanted: &[u8]) {
+    let (out, folds) = shown_folded(rt, src);
     assert!(rt; folds == count && out.as_slice() == wanted);
 }
 
 #[test]
 fn rows(rt: HostRuntime) {
     for (src, count, wanted) in FOLDED {
-        folded(&rt, rt.alloc(), src, *count, wanted);
+        folded(&rt, src, *count, wanted);
     }
 }
 
@@ -60,8 +58,8 @@ const LONG: &[Long] = &[
 #[test]
 fn long_texts(rt: HostRuntime) {
     for (parts, count, parts_then) in LONG {
-        let src = text_of(&rt, rt.alloc(), parts);
-        let wanted = text_of(&rt, rt.alloc(), parts_then);
-        folded(&rt, rt.alloc(), src.as_slice(), *count, wanted.as_slice());
+        let src = text_of(&rt, parts);
+        let wanted = text_of(&rt, parts_then);
+        folded(&rt, src.as_slice(), *count, wanted.as_slice());
     }
 }

@@ -1,10 +1,10 @@
 // A tree in an arena of its own, in which it is always held.
 ghost use Rattle.arena_tree.specs.Given.{IsTreeIn};
 
+use super::super::Rt;
 use arena_chunks::{Allocator, ChunkSource};
 use arena_tree::{Tree, TreeErr};
 use call_rules::Bytes;
-use std::alloc::Global;
 use std::marker::Model;
 use std::process::Abort;
 
@@ -25,10 +25,8 @@ impl<C: ChunkSource> Model for KeptTree<C> {
 impl<C: ChunkSource> KeptTree<C> {
     pub(super) fn of(rt: &impl Abort, mut a: Allocator<C>, src: &[u8]) -> KeptTree<C> {
         assert!(rt; src.len() <= 1 << 24);
-        match Tree::parse(&mut a, src) {
-            Ok(tree) => KeptTree { a, tree },
-            Err(_) => panic!(rt; "a program"),
-        }
+        let tree = Tree::parse(&mut a, src).ok().expect(rt, "a program");
+        KeptTree { a, tree }
     }
 
     // Folds the tree, and returns the number of folded nodes.
@@ -46,13 +44,18 @@ impl<C: ChunkSource> KeptTree<C> {
         rt: &impl Abort,
         mut b: Allocator<D>,
     ) -> KeptTree<D> {
-        match self.tree.clone_in(&self.a, &mut b) {
-            Ok(tree) => KeptTree { a: b, tree },
-            Err(_) => panic!(rt; "a copy"),
-        }
+        let tree = self
+            .tree
+            .clone_in(&self.a, &mut b)
+            .ok()
+            .expect(rt, "a copy");
+        KeptTree { a: b, tree }
     }
 
-    pub(super) fn text(&self, rt: &impl Abort, alloc: Global) -> Bytes {
-        self.tree.print(alloc, &self.a).ok().expect(rt, "memory")
+    pub(super) fn text(&self, rt: &impl Rt) -> Bytes {
+        self.tree
+            .print(rt.alloc(), &self.a)
+            .ok()
+            .expect(rt, "memory")
     }
 }

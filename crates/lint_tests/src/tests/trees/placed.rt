@@ -24,8 +24,7 @@ const PRINTED: &[Row] = &[
 #[test]
 fn printed(rt: HostRuntime) {
     for (src, wanted) in PRINTED {
-        let mut a = ample(rt.alloc());
-        let out = shown(&rt, rt.alloc(), &mut a, src);
+        let out = shown(&rt, src);
         same_at(&rt, *src, out.as_slice(), *wanted);
     }
 }
@@ -50,8 +49,8 @@ const REFUSED: &[Refusal] = &[
 #[test]
 fn refused_texts(rt: HostRuntime) {
     for (parts, wanted) in REFUSED {
-        let src = text_of(&rt, rt.alloc(), parts);
-        let mut a = ample(rt.alloc());
+        let src = text_of(&rt, parts);
+        let mut a = ample(&rt);
         let found = refused_in(&rt, &mut a, src.as_slice());
         same_at(&rt, *parts, found, Some(*wanted));
         let found = stopped_in(&rt, &mut a, src.as_slice());
@@ -80,11 +79,10 @@ const SIZES: &[(&[u8], usize, bool)] = &[
 #[test]
 fn small_arenas(rt: HostRuntime) {
     for (src, bytes, enough) in SIZES {
-        let mut a = fixed(&rt, rt.alloc(), *bytes);
-        let full = Some(TreeErr::AllocErr { refused: 0 });
-        let wanted = if *enough { None } else { full };
+        let mut a = fixed(&rt, *bytes);
+        let wanted = (!*enough).then_some(TreeErr::AllocErr { refused: 0 });
         same_at(&rt, *bytes, refused_in(&rt, &mut a, src), wanted);
-        let mut a = fixed(&rt, rt.alloc(), *bytes);
+        let mut a = fixed(&rt, *bytes);
         same_at(&rt, *bytes, stopped_in(&rt, &mut a, src), wanted);
     }
 }
@@ -93,12 +91,16 @@ fn small_arenas(rt: HostRuntime) {
 // chunk. For each chunk one size is tried: 16,320, and 32,640, whose half is too small.
 #[test]
 fn refusing_sources(rt: HostRuntime) {
-    let src = text_of(&rt, rt.alloc(), &[(b"1+", 199), (b"1;", 1)]);
+    let src = text_of(&rt, &[(b"1+", 199), (b"1;", 1)]);
     for refused in 1..3 {
-        let mut a = Allocator::new(rt.alloc(), refusing(rt.alloc(), refused));
+        let mut a = Allocator::new(rt.alloc(), refusing(&rt, refused));
         let wanted = Some(TreeErr::AllocErr { refused: 1 });
-        let found = refused_in(&rt, &mut a, src.as_slice());
-        same_at(&rt, refused, found, wanted);
+        same_at(
+            &rt,
+            refused,
+            refused_in(&rt, &mut a, src.as_slice()),
+            wanted,
+        );
         same_at(&rt, refused, refused_in(&rt, &mut a, src.as_slice()), None);
     }
 }

@@ -1,5 +1,5 @@
 // A plain parser that follows the grammar's rules literally: the symbols that are still to be read are on a stack.
-use std::alloc::Global;
+use super::super::Rt;
 use std::process::Abort;
 use std::vec::Vec;
 use tree_rules::Refused;
@@ -32,11 +32,10 @@ fn longer(word: Word, b: u8) -> Word {
     let value = shifted.and_then(|v| v.checked_add(u64::from(digit)));
     let zero = word.zero || word.number && word.bytes == 1 && word.value == Some(0);
     Word {
-        at: word.at,
-        number: word.number,
         bytes: word.bytes.saturating_add(1),
         zero,
         value,
+        ..word
     }
 }
 
@@ -53,16 +52,12 @@ fn first(b: u8, at: u64) -> Word {
 
 // Returns the token of a word: a number, a number that is too large, a name, `let`, or one that no program has.
 fn token(word: Word) -> u8 {
-    if word.number {
-        if word.zero {
-            return b'?';
-        }
-        return if word.value.is_some() { b'n' } else { b'b' };
-    }
-    if word.value == Some(7_103_860) {
-        b'l'
-    } else {
-        b'a'
+    match word.value {
+        _ if word.number && word.zero => b'?',
+        Some(_) if word.number => b'n',
+        None if word.number => b'b',
+        Some(7_103_860) => b'l',
+        _ => b'a',
     }
 }
 
@@ -73,172 +68,109 @@ fn sign(b: u8) -> u8 {
     }
 }
 
+// The rule for a symbol and the next token: the symbols in its place, with the next one last, how much deeper they are
+// nested, and whether the token is read; if not, the next symbol decides. `None` if no rule allows the token there.
+fn rule(symbol: u8, token: u8) -> Option<(&'static str, i64, bool)> {
+    let rule = match (symbol, token) {
+        // statements: none, or one and others
+        (b'S', b'l') => ("S;E=a", 0, true),
+        (b'S', b'{') => ("S}S", 1, true),
+        (b'S', b'}') => ("", 0, false),
+        (b'S', _) => ("S;E", 0, false),
+        // a term and more of them, a factor and more of them
+        (b'E', _) => ("eT", 0, false),
+        (b'e', b'+' | b'-') => ("eT", 0, true),
+        (b'T', _) => ("tF", 0, false),
+        (b't', b'*') => ("tF", 0, true),
+        (b'e' | b't', _) => ("", 0, false),
+        // a factor, and the end of one after a sign
+        (b'F', b'n' | b'b' | b'a') => ("", 0, true),
+        (b'F', b'(') => (")E", 1, true),
+        (b'F', b'-') => ("~F", 1, true),
+        (b'~', _) => ("", -1, false),
+        // a symbol that is a token
+        (b')' | b'}', _) if symbol == token => ("", -1, true),
+        _ if symbol == token => ("", 0, true),
+        _ => return None,
+    };
+    Some(rule)
+}
+
 /// The symbols that are still to be read, with the next one last, and the nesting depth.
 #[derive(Drop)]
 struct Rest {
     symbols: Vec<u8>,
-    open: u64,
+    open: i64,
 }
 
 impl Rest {
-    fn put(&mut self, rt: &impl Abort, symbols: &[u8]) {
-        for s in symbols {
-            self.symbols.push(*s).expect(rt, "memory");
-        }
-    }
-
-    fn opens(&mut self) {
-        self.open = self.open.saturating_add(1);
-    }
-
-    fn closes(&mut self) {
-        self.open = self.open.saturating_sub(1);
-    }
-
-    // Statements: none, or one and others.
-    fn statements(&mut self, rt: &impl Abort, token: u8) -> Option<bool> {
-        match token {
-            b'l' => {
-                self.put(rt, b"S;E=a");
-                Some(true)
-            }
-            b'{' => {
-                self.put(rt, b"S}S");
-                self.opens();
-                Some(true)
-            }
-            b'}' => None,
-            _ => {
-                self.put(rt, b"S;E");
-                None
-            }
-        }
-    }
-
-    fn factor(&mut self, rt: &impl Abort, token: u8) -> bool {
-        match token {
-            b'n' | b'b' | b'a' => true,
-            b'(' => {
-                self.put(rt, b")E");
-                self.opens();
-                true
-            }
-            b'-' => {
-                self.put(rt, b"~F");
-                self.opens();
-                true
-            }
-            _ => false,
-        }
-    }
-
-    // More terms, or more factors, if the next token is one of their signs.
-    fn more(&mut self, rt: &impl Abort, symbols: &[u8], stands: bool) -> Option<bool> {
-        if stands {
-            self.put(rt, symbols);
-            return Some(true);
-        }
-        None
-    }
-
-    // A symbol that is a token.
-    fn itself(&mut self, symbol: u8, token: u8) -> bool {
-        if token == b')' || token == b'}' {
-            self.closes();
-        }
-        symbol == token
-    }
-
-    // Whether the symbol is the token or begins with it; `None` if the next symbol decides.
-    fn step(&mut self, rt: &impl Abort, symbol: u8, token: u8) -> Option<bool> {
-        match symbol {
-            b'S' => self.statements(rt, token),
-            b'E' => {
-                self.put(rt, b"eT");
-                None
-            }
-            b'e' => self.more(rt, b"eT", token == b'+' || token == b'-'),
-            b'T' => {
-                self.put(rt, b"tF");
-                None
-            }
-            b't' => self.more(rt, b"tF", token == b'*'),
-            b'F' => Some(self.factor(rt, token)),
-            b'~' => {
-                self.closes();
-                None
-            }
-            _ => Some(self.itself(symbol, token)),
-        }
-    }
-
     fn reads(&mut self, rt: &impl Abort, token: u8) -> bool {
         for _ in 0..200 {
-            match self.symbols.pop() {
-                Some(symbol) => {
-                    if let Some(known) = self.step(rt, symbol, token) {
-                        return known;
-                    }
-                }
-                None => return false,
+            let symbol = self.symbols.pop();
+            let Some((symbols, deeper, is_read)) = symbol.and_then(|s| rule(s, token)) else {
+                return false;
+            };
+            self.symbols
+                .extend_from_slice(symbols.as_bytes())
+                .expect(rt, "memory");
+            self.open = self.open.saturating_add(deeper);
+            if is_read {
+                return true;
             }
         }
         false
     }
 
-    fn refused(&mut self, rt: &impl Abort, token: u8, at: u64) -> Option<Refused> {
+    fn token(&mut self, rt: &impl Abort, token: u8, at: u64) -> Result<(), Refused> {
         if !self.reads(rt, token) {
-            return Some(Refused::Syntax { at });
+            return Err(Refused::Syntax { at });
         }
         if 64 < self.open {
-            return Some(Refused::TooDeep { at });
+            return Err(Refused::TooDeep { at });
         }
         if token == b'b' {
-            return Some(Refused::NumberTooBig { at });
+            return Err(Refused::NumberTooBig { at });
         }
-        None
+        Ok(())
     }
 
     // Reads the word that has ended, if there is one.
-    fn word(&mut self, rt: &impl Abort, word: Option<Word>) -> Option<Refused> {
-        let word = word?;
-        self.refused(rt, token(word), word.at)
+    fn word(&mut self, rt: &impl Abort, word: Option<Word>) -> Result<(), Refused> {
+        match word {
+            Some(word) => self.token(rt, token(word), word.at),
+            None => Ok(()),
+        }
     }
 }
 
 /// Returns why and where a text is refused.
-pub fn plain(rt: &impl Abort, alloc: Global, src: &[u8]) -> Option<Refused> {
+pub(super) fn plain(rt: &impl Rt, src: &[u8]) -> Result<(), Refused> {
     let mut rest = Rest {
-        symbols: Vec::new(alloc),
+        symbols: vec![in rt.alloc(); b'S'].expect(rt, "memory"),
         open: 0,
     };
-    rest.put(rt, b"S");
     let mut word: Option<Word> = None;
-    let mut at = 0u64;
-    for b in src {
+    for (at, b) in src.iter().enumerate() {
         word = match word {
             Some(w) if goes_on(w, *b) => Some(longer(w, *b)),
             _ => {
-                if let Some(refused) = rest.word(rt, word) {
-                    return Some(refused);
-                }
+                rest.word(rt, word)?;
                 if b.is_ascii_digit() || is_letter(*b) {
-                    Some(first(*b, at))
+                    Some(first(*b, at as u64))
                 } else {
                     if *b != b' ' && *b != b'\n' {
-                        if let Some(refused) = rest.refused(rt, sign(*b), at) {
-                            return Some(refused);
-                        }
+                        rest.token(rt, sign(*b), at as u64)?;
                     }
                     None
                 }
             }
         };
-        at = at.saturating_add(1);
     }
-    match rest.word(rt, word) {
-        Some(refused) => Some(refused),
-        None if rest.symbols.len() == 1 => None,
-        None => Some(Refused::Syntax { at }),
+    rest.word(rt, word)?;
+    if rest.symbols.len() != 1 {
+        return Err(Refused::Syntax {
+            at: src.len() as u64,
+        });
     }
+    Ok(())
 }
