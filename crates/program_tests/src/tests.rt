@@ -7,15 +7,20 @@ mod watched;
 
 use arena_calls::{Input, MemoryInput, MemoryOutput, Output, Status};
 use arena_chunks::{Arena, ChunkSource, MemoryChunks};
-use arena_pool::MemoryMaker;
+use arena_pool::{ChunkMaker, MemoryMaker};
 use arena_program::arena_main;
-use arena_script::Engine;
+use arena_script::{Engine, Job};
 use call_rules::Bytes;
-use std::alloc::Global;
+use std::alloc::{Alloc, Global};
 use std::process::Abort;
 use std::sync::Wait;
 use std::test::Fail;
 use std::thread::Threads;
+
+/// The handle of a test.
+trait Rt: Threads + Wait + Abort + Alloc<A = Global> + Sync {}
+
+impl<R: Threads + Wait + Abort + Alloc<A = Global> + Sync> Rt for R {}
 
 // Words and an input. A read gives at most `given` bytes and a write takes at most `taken`, but at least one. The
 // reads and writes with the listed numbers fail.
@@ -55,14 +60,6 @@ fn streams(alloc: Global, asked: &Asked) -> Result<(MemoryInput, MemoryOutput), 
     Ok((input, MemoryOutput::new(alloc, asked.taken.max(1), writes)))
 }
 
-fn words(alloc: Global, list: &[&str]) -> Result<Vec<Bytes>, Fail> {
-    let mut words = Vec::new(alloc);
-    for word in list {
-        words.push(Bytes::of(alloc, word.as_bytes())?)?;
-    }
-    Ok(words)
-}
-
 fn holds(rt: &impl Abort, is_so: bool, row: &str) {
     assert!(rt; is_so, "{row:?}");
 }
@@ -86,50 +83,46 @@ impl Ended {
 }
 
 // Runs the words over a new arena and a source.
-fn serve<R: Threads + Wait + Sync, C: ChunkSource, I: Input, O: Output>(
-    rt: &R,
-    alloc: Global,
-    words: &[Bytes],
-    chunks: &mut C,
-    input: &mut I,
-    output: &mut O,
-) -> Status {
-    arena_main(
+fn serve<K: ChunkMaker + Drop + Send>(
+    rt: &impl Rt,
+    words: &[&str],
+    chunks: &mut impl ChunkSource,
+    input: &mut impl Input,
+    output: &mut impl Output,
+    maker: K,
+    job: &(impl Job<K::Chunks> + Sync),
+) -> Result<Status, Fail> {
+    let alloc = rt.alloc();
+    let mut list = Vec::new(alloc);
+    for word in words {
+        list.push(Bytes::of(alloc, word.as_bytes())?)?;
+    }
+    Ok(arena_main(
         rt,
         alloc,
-        words,
+        &list,
         &mut Arena::<1>::new(alloc),
         chunks,
         input,
         output,
-        MemoryMaker::new(alloc, 1 << 26),
-        &Engine,
+        maker,
+        job,
         &mut Vec::new(alloc),
-    )
+    ))
 }
 
-fn run_over<R: Threads + Wait + Sync, C: ChunkSource>(
-    rt: &R,
-    alloc: Global,
-    chunks: &mut C,
-    asked: &Asked,
-) -> Result<Ended, Fail> {
-    let words = words(alloc, asked.words)?;
-    let (mut input, mut output) = streams(alloc, asked)?;
-    let status = serve(rt, alloc, words.as_slice(), chunks, &mut input, &mut output);
-    let text = output.bytes().to_vec(alloc)?;
+fn run_over(rt: &impl Rt, chunks: &mut impl ChunkSource, asked: &Asked) -> Result<Ended, Fail> {
+    let (mut input, mut output) = streams(rt.alloc(), asked)?;
+    let maker = MemoryMaker::new(rt.alloc(), 1 << 26);
+    let words = asked.words;
+    let status = serve(rt, words, chunks, &mut input, &mut output, maker, &Engine)?;
+    let text = output.bytes().to_vec(rt.alloc())?;
     Ok(Ended { status, text })
 }
 
 // Checks how the words end with ample memory.
-fn ends_so<R: Threads + Wait + Sync + Abort>(
-    rt: &R,
-    alloc: Global,
-    asked: &Asked,
-    wanted: (u8, u64, &[u8]),
-    row: &str,
-) -> Result<(), Fail> {
-    let ended = run_over(rt, alloc, &mut MemoryChunks::new(alloc, 1 << 30), asked)?;
+fn ends_so(rt: &impl Rt, asked: &Asked, wanted: (u8, u64, &[u8]), row: &str) -> Result<(), Fail> {
+    let ended = run_over(rt, &mut MemoryChunks::new(rt.alloc(), 1 << 30), asked)?;
     holds(rt, ended.is(wanted), row);
     Ok(())
 }

@@ -38,7 +38,7 @@ fn long_inputs_on_workers(rt: HostRuntime) -> Result<(), Fail> {
     for workers in ["1", "3", "4"] {
         let words = ["scripts", workers];
         let asked = asks(&words, text.as_slice());
-        ends_so(&rt, rt.alloc(), &asked, (0, 0, told.as_slice()), workers)?;
+        ends_so(&rt, &asked, (0, 0, told.as_slice()), workers)?;
     }
     Ok(())
 }
@@ -70,7 +70,7 @@ fn refused_lines_of_long_inputs(rt: HostRuntime) -> Result<(), Fail> {
         let text = input(rt.alloc(), added)?;
         let words = ["scripts", workers];
         let asked = asks(&words, text.as_slice());
-        ends_so(&rt, rt.alloc(), &asked, (2, *number, b""), workers)?;
+        ends_so(&rt, &asked, (2, *number, b""), workers)?;
     }
     Ok(())
 }

@@ -1,16 +1,14 @@
 // Tests of the whole program through its words.
-use super::holds;
-use arena_calls::{Input, MemoryInput, MemoryOutput, Output, program_chunks};
+use super::{Rt, holds};
+use arena_calls::{MemoryInput, MemoryOutput, program_chunks};
 use arena_chunks::Arena;
 use arena_program::{program_maker, run_program};
 use arena_script::Engine;
 use std::alloc::Global;
 use std::env::Args;
 use std::io;
-use std::process::{Abort, ExitCode};
-use std::sync::Wait;
+use std::process::ExitCode;
 use std::test::Fail;
-use std::thread::Threads;
 
 // The exit status, the output, and the messages.
 #[derive(Drop)]
@@ -28,42 +26,30 @@ impl Ended {
     }
 }
 
-// Runs the words over a new arena with this budget.
-fn serve<R: Threads + Wait + Sync, I: Input, O: Output, E: Output>(
-    rt: &R,
-    alloc: Global,
+// Runs the words over a new arena with the program's budget.
+fn run_words(
+    rt: &impl Rt,
     args: io::Result<Args>,
-    input: &mut I,
-    output: &mut O,
-    messages: &mut E,
-) -> ExitCode {
-    run_program(
+    text: &str,
+    fail: &[u64],
+) -> Result<Ended, Fail> {
+    let alloc = rt.alloc();
+    let text = text.as_bytes().to_vec(alloc)?;
+    let mut output = MemoryOutput::new(alloc, 4096, fail.to_vec(alloc)?);
+    let mut messages = MemoryOutput::new(alloc, 7, fail.to_vec(alloc)?);
+    let status = run_program(
         rt,
         alloc,
         args,
         &mut Arena::<1>::new(alloc),
         &mut program_chunks(alloc),
-        input,
-        output,
-        messages,
+        &mut MemoryInput::new(alloc, text, 4096, Vec::new(alloc)),
+        &mut output,
+        &mut messages,
         program_maker(alloc),
         &Engine,
         &mut Vec::new(alloc),
-    )
-}
-
-fn run_words<R: Threads + Wait + Sync>(
-    rt: &R,
-    alloc: Global,
-    args: io::Result<Args>,
-    text: &str,
-    fail: &[u64],
-) -> Result<Ended, Fail> {
-    let text = text.as_bytes().to_vec(alloc)?;
-    let mut input = MemoryInput::new(alloc, text, 4096, Vec::new(alloc));
-    let mut output = MemoryOutput::new(alloc, 4096, fail.to_vec(alloc)?);
-    let mut messages = MemoryOutput::new(alloc, 7, fail.to_vec(alloc)?);
-    let status = serve(rt, alloc, args, &mut input, &mut output, &mut messages);
+    );
     Ok(Ended {
         status,
         text: output.bytes().to_vec(alloc)?,
@@ -137,16 +123,14 @@ const NOTHING: &[&[&str]] = &[
     &["", "scripts", "1", "keep", "18446744073709551616"],
 ];
 
-fn ends_so<R: Threads + Wait + Sync + Abort>(
-    rt: &R,
-    alloc: Global,
+fn ends_so(
+    rt: &impl Rt,
     args: io::Result<Args>,
     input: &str,
     fail: &[u64],
     wanted: (u8, &str, &str),
 ) -> Result<(), Fail> {
-    let ended = run_words(rt, alloc, args, input, fail)?;
-    holds(rt, ended.is(wanted), input);
+    holds(rt, run_words(rt, args, input, fail)?.is(wanted), input);
     Ok(())
 }
 
@@ -154,8 +138,7 @@ fn ends_so<R: Threads + Wait + Sync + Abort>(
 fn programs_by_their_words(rt: HostRuntime) -> Result<(), Fail> {
     for (words, input, fail, status, text, messages) in ROWS {
         let args = args(rt.alloc(), words)?;
-        let wanted = (*status, *text, *messages);
-        ends_so(&rt, rt.alloc(), Ok(args), input, fail, wanted)?;
+        ends_so(&rt, Ok(args), input, fail, (*status, *text, *messages))?;
     }
     Ok(())
 }
@@ -164,7 +147,7 @@ fn programs_by_their_words(rt: HostRuntime) -> Result<(), Fail> {
 fn words_that_ask_for_nothing(rt: HostRuntime) -> Result<(), Fail> {
     for words in NOTHING {
         let args = args(rt.alloc(), words)?;
-        ends_so(&rt, rt.alloc(), Ok(args), "script\n", &[], (1, "", USAGE))?;
+        ends_so(&rt, Ok(args), "script\n", &[], (1, "", USAGE))?;
     }
     Ok(())
 }
@@ -172,8 +155,7 @@ fn words_that_ask_for_nothing(rt: HostRuntime) -> Result<(), Fail> {
 #[test]
 fn words_that_are_not_told(rt: HostRuntime) -> Result<(), Fail> {
     let error = io::Error::from(io::ErrorKind::OutOfMemory);
-    let wanted = (3, "", "out of memory\n");
-    ends_so(&rt, rt.alloc(), Err(error), "used\n", &[], wanted)?;
+    ends_so(&rt, Err(error), "used\n", &[], (3, "", "out of memory\n"))?;
     let error = io::Error::from(io::ErrorKind::InvalidData);
-    ends_so(&rt, rt.alloc(), Err(error), "used\n", &[], (1, "", USAGE))
+    ends_so(&rt, Err(error), "used\n", &[], (1, "", USAGE))
 }

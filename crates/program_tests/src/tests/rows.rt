@@ -62,7 +62,7 @@ fn scripts_and_sources_by_their_words(rt: HostRuntime) -> Result<(), Fail> {
             taken: 5,
             ..CALLS
         };
-        ends_so(&rt, rt.alloc(), &asked, (0, 0, told.as_bytes()), text)?;
+        ends_so(&rt, &asked, (0, 0, told.as_bytes()), text)?;
     }
     Ok(())
 }

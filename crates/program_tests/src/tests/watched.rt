@@ -1,26 +1,20 @@
 // Tests of the words as seen by makers of sources, by sources and by jobs: the number of arenas, the number of
 // workers that are at work at the same time, and the arenas that are lent again.
-use super::{asks, streams, words};
-use arena_calls::{Input, Output, Status};
-use arena_chunks::{Allocator, Arena, ChunkSource, MemoryChunks};
+use super::{asks, serve, streams};
+use arena_chunks::{Allocator, ChunkSource, MemoryChunks};
 use arena_pool::ChunkMaker;
-use arena_program::arena_main;
 use arena_script::{Job, run_script};
-use call_rules::Bytes;
 use script_rules::{Outcome, Script};
 use std::alloc::Global;
-use std::process::Abort;
-use std::sync::Wait;
 use std::sync::atomic::{AtomicU64, Ordering};
 use std::test::Fail;
 use std::thread;
-use std::thread::Threads;
 
 /// How often a worker checks whether the others are at work.
 const TURNS: u32 = 1_000_000;
 
 /// Watches a run, in which `at_once` workers must be at work at the same time.
-#[derive(Drop)]
+#[derive(Drop, Default)]
 struct Watch {
     at_once: u64,
     // The number of workers that came to work, and the number of those that waited for others in vain.
@@ -33,16 +27,6 @@ struct Watch {
 }
 
 impl Watch {
-    fn new(at_once: u64) -> Watch {
-        Watch {
-            at_once,
-            here: AtomicU64::new(0),
-            alone: AtomicU64::new(0),
-            made: AtomicU64::new(0),
-            lent: AtomicU64::new(0),
-        }
-    }
-
     // A worker comes to work, and waits for the others.
     fn meet(&self) {
         self.here.fetch_add(1, Ordering::SeqCst);
@@ -110,28 +94,6 @@ impl<C: ChunkSource> Job<C> for Watch {
     }
 }
 
-fn serve<R: Threads + Wait + Sync, I: Input, O: Output>(
-    rt: &R,
-    alloc: Global,
-    words: &[Bytes],
-    input: &mut I,
-    output: &mut O,
-    watch: &Watch,
-) -> Status {
-    arena_main(
-        rt,
-        alloc,
-        words,
-        &mut Arena::<1>::new(alloc),
-        &mut MemoryChunks::new(alloc, 0),
-        input,
-        output,
-        Maker { alloc, watch },
-        watch,
-        &mut Vec::new(alloc),
-    )
-}
-
 /// Inputs of no script, and of three, each of which takes 8 bytes.
 const NONE: &str = "";
 
@@ -167,26 +129,29 @@ const AGAIN: &[Row] = &[
     (&["scripts", "1", "fixed", "144", "1"], THREE, 1, 1, 288),
 ];
 
-fn is_watched<R: Threads + Wait + Sync + Abort>(
-    rt: &R,
-    alloc: Global,
-    (list, text, at_once, made, lent): &Row,
-) -> Result<(), Fail> {
-    let asked = asks(list, text.as_bytes());
-    let words = words(alloc, list)?;
-    let (mut input, mut output) = streams(alloc, &asked)?;
-    let watch = Watch::new(*at_once);
-    let status = serve(rt, alloc, &words, &mut input, &mut output, &watch);
-    let is_so = status.code() == 0 && watch.saw(*made, *lent);
-    assert!(rt; is_so, "{list:?}");
-    Ok(())
-}
-
 #[test]
 fn as_many_arenas_and_workers_as_the_words_say(rt: HostRuntime) -> Result<(), Fail> {
+    let alloc = rt.alloc();
     for rows in [AT_FIRST, AT_ONCE, AGAIN] {
-        for row in rows {
-            is_watched(&rt, rt.alloc(), row)?;
+        for (words, text, at_once, made, lent) in rows {
+            let (mut input, mut output) = streams(alloc, &asks(words, text.as_bytes()))?;
+            let watch = &Watch {
+                at_once: *at_once,
+                ..Default::default()
+            };
+            let mut chunks = MemoryChunks::new(alloc, 0);
+            let maker = Maker { alloc, watch };
+            let status = serve(
+                &rt,
+                words,
+                &mut chunks,
+                &mut input,
+                &mut output,
+                maker,
+                watch,
+            )?;
+            let is_so = status.code() == 0 && watch.saw(*made, *lent);
+            assert!(rt; is_so, "{words:?}");
         }
     }
     Ok(())

@@ -1,14 +1,13 @@
 // Tests of how runs end if reads or writes fail, and of the streams in memory.
 ghost use Rattle.std.specs.Prelude.{◌<◌, length};
 
-use crate::tests::{Asked, CALLS, ends_so, holds, serve, words};
-use arena_calls::{MemoryOutput, Output, Status, StdInput, StdOutput};
-use arena_chunks::{Bytes, MemoryChunks};
-use std::alloc::Global;
+use crate::tests::{Asked, CALLS, ends_so, holds, serve};
+use arena_calls::{MemoryOutput, Output, StdInput, StdOutput};
+use arena_chunks::MemoryChunks;
+use arena_pool::MemoryMaker;
+use arena_script::Engine;
 use std::process::Abort;
-use std::sync::Wait;
 use std::test::Fail;
-use std::thread::Threads;
 
 // The reads and the writes that fail, the status, and the output. Reads give 2 bytes of 4, so the third one reaches
 // the end. Writes take 4 bytes of 9.
@@ -25,8 +24,7 @@ fn a_read_and_a_write_fail(rt: HostRuntime) -> Result<(), Fail> {
             writes,
             ..CALLS
         };
-        let wanted = (*code, 0, written.as_bytes());
-        ends_so(&rt, rt.alloc(), &asked, wanted, written)?;
+        ends_so(&rt, &asked, (*code, 0, written.as_bytes()), written)?;
     }
     Ok(())
 }
@@ -54,17 +52,15 @@ fn by_bytes<'a>(reads: &'a [u64], writes: &'a [u64]) -> Asked<'a> {
 fn each_byte_fails_in_turn(rt: HostRuntime) -> Result<(), Fail> {
     let (reads, replies) = (LINES.len() as u64 + 1, REPLIES.as_bytes());
     for n in 1..=reads {
-        let fail = [n];
-        ends_so(&rt, rt.alloc(), &by_bytes(&fail, &[]), (4, 0, b""), "")?;
+        ends_so(&rt, &by_bytes(&[n], &[]), (4, 0, b""), "")?;
     }
     for n in 0..replies.len() {
         let fail = [n as u64 + 1];
-        let wanted = (5, 0, &replies[..n]);
-        ends_so(&rt, rt.alloc(), &by_bytes(&[], &fail), wanted, "")?;
+        ends_so(&rt, &by_bytes(&[], &fail), (5, 0, &replies[..n]), "")?;
     }
     let behind = ([reads + 1], [replies.len() as u64 + 1]);
     let asked = by_bytes(&behind.0, &behind.1);
-    ends_so(&rt, rt.alloc(), &asked, (0, 0, replies), REPLIES)
+    ends_so(&rt, &asked, (0, 0, replies), REPLIES)
 }
 
 #[test]
@@ -76,7 +72,7 @@ fn the_longest_input_and_one_byte_more(rt: HostRuntime) -> Result<(), Fail> {
             given: 1 << 20,
             ..CALLS
         };
-        ends_so(&rt, rt.alloc(), &asked, (code, 0, b""), "")?;
+        ends_so(&rt, &asked, (code, 0, b""), "")?;
     }
     Ok(())
 }
@@ -100,27 +96,24 @@ fn only_the_listed_write_fails(rt: HostRuntime) -> Result<(), Fail> {
     Ok(())
 }
 
-// Runs calls over a reader and a writer of std.
-fn piped<R: Threads + Wait + Sync>(
-    rt: &R,
-    alloc: Global,
-    words: &[Bytes],
-    text: &[u8],
-    written: &mut Vec<u8>,
-) -> Status {
-    let mut input = StdInput::new(text);
-    let mut output = StdOutput::new(written);
-    let mut chunks = MemoryChunks::new(alloc, 1 << 30);
-    serve(rt, alloc, words, &mut chunks, &mut input, &mut output)
-}
-
 #[test]
 fn over_a_reader_and_a_writer_of_std(rt: HostRuntime) -> Result<(), Fail> {
     let alloc = rt.alloc();
-    let words = words(alloc, &["calls"])?;
     let mut written = Vec::new(alloc);
-    let text = b"used\nallocated\n";
-    let status = piped(&rt, alloc, words.as_slice(), text, &mut written);
+    let mut input = StdInput::new(b"used\nallocated\n".as_slice());
+    let mut output = StdOutput::new(&mut written);
+    let mut chunks = MemoryChunks::new(alloc, 1 << 30);
+    let maker = MemoryMaker::new(alloc, 1 << 26);
+    let words = &["calls"];
+    let status = serve(
+        &rt,
+        words,
+        &mut chunks,
+        &mut input,
+        &mut output,
+        maker,
+        &Engine,
+    )?;
     let is_so = status.code() == 0 && written.as_slice() == b"number 0\nnumber 0\n".as_slice();
     holds(&rt, is_so, "status, written");
     Ok(())

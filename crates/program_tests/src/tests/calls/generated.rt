@@ -87,7 +87,7 @@ fn summaries_that_the_rules_give(rt: HostRuntime) -> Result<(), Fail> {
             reads: &[1],
             ..CALLS
         };
-        ends_so(&rt, rt.alloc(), &asked, (0, 0, lines.as_bytes()), lines)?;
+        ends_so(&rt, &asked, (0, 0, lines.as_bytes()), lines)?;
     }
     Ok(())
 }
@@ -112,7 +112,7 @@ fn other_words_are_usage(rt: HostRuntime) -> Result<(), Fail> {
             reads: &[1],
             ..CALLS
         };
-        ends_so(&rt, rt.alloc(), &asked, (1, 0, b""), "")?;
+        ends_so(&rt, &asked, (1, 0, b""), "")?;
     }
     Ok(())
 }

@@ -32,7 +32,7 @@ const REFUSED: &[(&str, u64)] = &[
 fn refused_lines(rt: HostRuntime) -> Result<(), Fail> {
     for (input, n) in REFUSED {
         let asked = asks(&["calls"], input.as_bytes());
-        ends_so(&rt, rt.alloc(), &asked, (2, *n, b""), input)?;
+        ends_so(&rt, &asked, (2, *n, b""), input)?;
     }
     Ok(())
 }

@@ -2,11 +2,7 @@
 use super::endings::{LINES, REPLIES};
 use crate::tests::{asks, ends_so, holds, run_over};
 use arena_chunks::RefusingChunks;
-use std::alloc::Global;
-use std::process::Abort;
-use std::sync::Wait;
 use std::test::Fail;
-use std::thread::Threads;
 
 // Lines of calls, and the expected replies.
 const ROWS: &[(&str, &str)] = &[
@@ -110,7 +106,7 @@ const ROWS: &[(&str, &str)] = &[
 fn replies_that_the_rules_give(rt: HostRuntime) -> Result<(), Fail> {
     for (calls, replies) in ROWS {
         let asked = asks(&["calls"], calls.as_bytes());
-        ends_so(&rt, rt.alloc(), &asked, (0, 0, replies.as_bytes()), calls)?;
+        ends_so(&rt, &asked, (0, 0, replies.as_bytes()), calls)?;
     }
     Ok(())
 }
@@ -140,25 +136,13 @@ const REFUSING: &[(&[u64], &str, &str, &[(u64, u64)])] = &[
     ),
 ];
 
-fn refused_so<R: Threads + Wait + Sync + Abort>(
-    rt: &R,
-    alloc: Global,
-    refuse: &[u64],
-    (calls, replies): (&str, &str),
-    requests: &[(u64, u64)],
-) -> Result<(), Fail> {
-    let mut chunks = RefusingChunks::new(alloc, refuse.to_vec(alloc)?);
-    let asked = asks(&["calls"], calls.as_bytes());
-    let ended = run_over(rt, alloc, &mut chunks, &asked)?;
-    holds(rt, ended.is((0, 0, replies.as_bytes())), calls);
-    holds(rt, chunks.requests() == Some(requests), calls);
-    Ok(())
-}
-
 #[test]
 fn replies_where_requests_are_refused(rt: HostRuntime) -> Result<(), Fail> {
     for (refuse, calls, replies, requests) in REFUSING {
-        refused_so(&rt, rt.alloc(), refuse, (calls, replies), requests)?;
+        let mut chunks = RefusingChunks::new(rt.alloc(), refuse.to_vec(rt.alloc())?);
+        let ended = run_over(&rt, &mut chunks, &asks(&["calls"], calls.as_bytes()))?;
+        holds(&rt, ended.is((0, 0, replies.as_bytes())), calls);
+        holds(&rt, chunks.requests() == Some(*requests), calls);
     }
     Ok(())
 }
