@@ -1,9 +1,10 @@
 -- Texts that are cut in two, and the readings of both parts.
+use Rattle.std.proofs.lemmas.Bool.Decides.{nat_tests}
 use Rattle.std.proofs.Common.{◌≡◌, ◌≢◌, ℕ, ◌+◌, ◌-◌, ◌<◌, ◌≤◌, Bool, true, false, List, [], ◌∷◌, ◌++◌, length, take, drop, get_or, get_or-drop, Some, None, Ok, Err, refl, sym, ap, ap₂, ◌∙◌, subst, arith, append_assoc, length-append, length-drop, take-append-drop, drop-drop, codes, Option}
 use Rattle.std.specs.Option.{option_map}
 use Rattle.std.proofs.lemmas.List.{take_all}
 use Rattle.std.specs.Prelude.{Result, ◌==◌}
-use Rattle.std.specs.List.{AllByRecursion, filter, flat_map, onto_first}
+use Rattle.std.specs.List.{filter, flat_map, onto_first}
 use Rattle.std.proofs.lemmas.List.Concat.{flat_map-append}
 use Rattle.std.proofs.lemmas.List.Elements.{filter-append}
 use Rattle.std.proofs.lemmas.List.Splits.{slice_split-cons_yes, slice_split-cons_no, length-slice_split}
@@ -14,8 +15,7 @@ use Rattle.arena_rules.proofs.ListLemmas.{all_append}
 use Rattle.call_rules.specs.Grammar.{lines_of}
 use Rattle.line_parts.specs.Lines.{IsCause}
 use Rattle.line_parts.specs.declared.lines.LinesErr.{LinesErr}
-use Rattle.line_parts.specs.declared.lines.LinesErr.TheVariants.{BadLine, OutOfMemory}
-use Rattle.script_rules.specs.Grammar.{Fits, script_lines, is_some_line, AreScripts, IsRefused, IsFirstRefused, ScriptsOf}
+use Rattle.script_rules.specs.Grammar.{script_lines, is_some_line, AreScripts, IsRefused, IsFirstRefused, ScriptsOf}
 use Rattle.script_rules.specs.declared.commands.Command.{Command}
 use Rattle.script_lines.proofs.CountLemmas.{lines_few}
 use Rattle.script_lines.specs.Cutting.{script_mark, IsCutAt, together}
@@ -24,20 +24,10 @@ use Rattle.script_lines.specs.Cutting.{script_mark, IsCutAt, together}
 
 module _ (bytes needle : List ℕ) (from : ℕ) (within : from ≤ length bytes) where
   occurs_on : (k : ℕ) → OccursAt (drop from bytes) needle k → OccursAt bytes needle (from + k)
-  occurs_on k o = record {
-    fits = omega (arith, o.fits, length-drop from bytes);
-    reads = λ j less.
-        let place : (from + k) + j ≡ from + (k + j) = omega arith in
-        ap (λ m. get_or bytes m 0) place ∙ sym (get_or-drop from bytes (k + j) 0) ∙ o.reads j less;
-  }
+  occurs_on k o = grind (arith, nat_tests, length-drop, get_or, get_or-drop)
 
   occurs_back : (k : ℕ) → from ≤ k → OccursAt bytes needle k → OccursAt (drop from bytes) needle (k - from)
-  occurs_back k low o = record {
-    fits = omega (arith, o.fits, length-drop from bytes);
-    reads = λ j less.
-        let place : from + ((k - from) + j) ≡ k + j = omega arith in
-        get_or-drop from bytes ((k - from) + j) 0 ∙ ap (λ m. get_or bytes m 0) place ∙ o.reads j less;
-  }
+  occurs_back k low o = grind (arith, nat_tests, length-drop, get_or-drop, get_or)
 
   none_later : FindsNeedle (drop from bytes) needle 0 None → FindsNeedle bytes needle from None
   none_later none k low high o = none (k - from) (omega arith) (omega (arith, length-drop from bytes)) (occurs_back k low o)
@@ -65,8 +55,7 @@ module _ (bytes needle : List ℕ) (from : ℕ) (within : from ≤ length bytes)
 -- ---- Lines of both parts
 
 onto_both : (b : ℕ) (lines more : List (List ℕ)) → 0 < length lines → onto_first b (lines ++ more) ≡ onto_first b lines ++ more
-onto_both b [] more some = absurd (omega arith)
-onto_both b (line ∷ lines) more some = refl
+onto_both b lines more some = grind (arith, nat_tests)
 
 lines_both : (first rest : List ℕ) → lines_of (first ++ 10 ∷ rest) ≡ lines_of first ++ lines_of rest
 lines_both [] rest = slice_split-cons_yes (λ x. x == 10) 10 rest refl
@@ -99,22 +88,10 @@ has_begun (first ∷ before) scripts line after behind e good bad none =
 
 module _ (lines more : List (List ℕ)) where
   all_scripts : (a b : List (List Command)) → AreScripts lines a → AreScripts more b → AreScripts (lines ++ more) (a ++ b)
-  all_scripts a b p q = record {
-    fit = all_append (AllByRecursion Fits) a b p.fit q.fit;
-    text = filter-append is_some_line lines more ∙ ap₂ ◌++◌ p.text q.text ∙ sym (flat_map-append script_lines a b);
-  }
+  all_scripts a b p q = grind (arith, nat_tests, all_append, filter-append, ap₂, flat_map-append)
 
   refused_first : (n : ℕ) → IsFirstRefused lines n → IsFirstRefused (lines ++ more) n
-  refused_first n p = record {
-    before = p.before;
-    scripts = p.scripts;
-    line = p.line;
-    after = p.after ++ more;
-    all = ap (λ ls. ls ++ more) p.all ∙ append_assoc p.before (p.line ∷ p.after) more;
-    place = p.place;
-    good = p.good;
-    bad = p.bad;
-  }
+  refused_first n p = grind (arith, nat_tests, append_assoc)
 
 refused_later : (lines more behind : List (List ℕ)) (a : List (List Command)) (n : ℕ) → AreScripts lines a
     → more ≡ codes "script" ∷ behind → IsFirstRefused more n → IsFirstRefused (lines ++ more) (length lines + n)
@@ -173,8 +150,7 @@ module _ (bytes : List ℕ) (at : ℕ) (cut : IsCutAt bytes at) where
   read_together (Err n) s p q = all_refused n p
 
   pub first_cause : (e : LinesErr) → IsCause (λ n. ScriptsOf first (Err n)) e → IsCause (λ n. ScriptsOf bytes (Err n)) e
-  first_cause (BadLine n) p = all_refused n p
-  first_cause OutOfMemory p = tt
+  first_cause e p = grind (arith, nat_tests, all_refused)
 
   -- the number of a line fits
   pub counted : (n : ℕ) → IsFirstRefused (lines_of rest) n → length (lines_of first) + n ≤ length bytes + 1

@@ -1,4 +1,5 @@
 -- Lines of outcomes, one after another.
+use Rattle.std.proofs.lemmas.Bool.Decides.{nat_tests}
 use Rattle.std.proofs.Common.{◌≡◌, ℕ, ◌+◌, ◌<◌, List, [], ◌∷◌, ◌++◌, length, map, take, get_or, refl, sym, ap, ◌∙◌, arith, append_assoc, codes}
 use Rattle.std.specs.List.{flat_map}
 use Rattle.std.proofs.lemmas.List.{append-nil, map-append, length-map, length-take-le}
@@ -6,7 +7,7 @@ use Rattle.std.proofs.lemmas.Grind.{flat_map-append}
 use Rattle.std.proofs.lemmas.List.Folds.{flat_map-map}
 use Rattle.call_rules.specs.Grammar.{number, fields, with_feed}
 use Rattle.line_parts.proofs.RoomLemmas.{take_next}
-use Rattle.script_rules.specs.Outcomes.{Told, reply_line, ended_line, outcome_lines, lines_from}
+use Rattle.script_rules.specs.Outcomes.{Told, ended_line, outcome_lines, lines_from}
 use Rattle.script_lines.specs.Room.{fed_reply, outcome_text}
 
 -- ---- Numbers
@@ -28,19 +29,7 @@ pub outcome_put : (old a b c d e : List ℕ) (i : ℕ) (outcome : Told) → a �
     → c ≡ b ++ 10 ∷ [] → d ≡ c ++ flat_map fed_reply outcome.replies
     → e ≡ d ++ with_feed (ended_line outcome.ended) → e ≡ old ++ outcome_text i outcome
 outcome_put old a b c d e i outcome on_a on_b on_c on_d on_e =
-    let head = with_feed (codes "script" ++ fields (i ∷ [])) in
-    let body = flat_map fed_reply outcome.replies in
-    let tail = with_feed (ended_line outcome.ended) in
-    let first : c ≡ old ++ head
-    = on_c ∙ ap (λ xs. xs ++ 10 ∷ []) (on_b ∙ ap (λ xs. xs ++ fields (i ∷ [])) on_a ∙ append_assoc old (codes "script") (fields (i ∷ [])))
-    ∙ append_assoc old (codes "script" ++ fields (i ∷ [])) (10 ∷ []) in
-    let rest : flat_map with_feed (map reply_line outcome.replies ++ ended_line outcome.ended ∷ []) ≡ body ++ tail
-    = flat_map-append with_feed (map reply_line outcome.replies) (ended_line outcome.ended ∷ [])
-    ∙ ap (λ xs. xs ++ flat_map with_feed (ended_line outcome.ended ∷ [])) (flat_map-map with_feed reply_line outcome.replies)
-    ∙ ap (λ xs. body ++ xs) (append-nil tail) in
-    on_e ∙ ap (λ xs. xs ++ tail) on_d ∙ append_assoc c body tail ∙ ap (λ xs. xs ++ (body ++ tail)) first
-    ∙ append_assoc old head (body ++ tail)
-    ∙ ap (λ xs. old ++ (head ++ xs)) (sym rest)
+    grind (arith, nat_tests, codes, append_assoc, flat_map-append, flat_map-map, append-nil)
 
 lines_more : (i : ℕ) (outcomes : List Told) (outcome : Told) → flat_map with_feed (lines_from i (outcomes ++ outcome ∷ []))
     ≡ flat_map with_feed (lines_from i outcomes) ++ outcome_text (i + length outcomes) outcome

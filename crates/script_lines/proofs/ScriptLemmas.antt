@@ -13,7 +13,6 @@ use Rattle.line_parts.specs.Lines.{is_line_end, lines_behind, TakesLine, Refuses
 use Rattle.line_parts.proofs.LineLemmas.{has_feed, plain, plain_number, plain_hex, ended, first_line, no_line}
 use Rattle.script_rules.specs.Grammar.{Part, Bits, Hex, part_text, written, command_line, Fits, script_lines, is_some_line, AreScripts, IsFirstRefused}
 use Rattle.script_rules.specs.declared.commands.Command.{Command}
-use Rattle.script_rules.specs.declared.commands.Command.TheVariants.{MakeList}
 use Rattle.script_lines.specs.Adding.{AddsLast}
 
 -- ---- A command's line has no line feed, isn't empty and doesn't begin with `script`
@@ -25,8 +24,7 @@ plain_parts (Hex bytes ∷ parts) = plain (hex bytes) (flat_map part_text parts)
 
 -- The first word of a command has no line feed, and its second letter isn't that of `script`.
 first_word : (command : Command) → (has_feed (written command).0 ≡ false) × ((get_or (written command).0 1 99 == 99) ≡ false)
-first_word (MakeList a) = (refl, refl)
-first_word command = (refl, refl)
+first_word command = grind (arith, nat_tests)
 
 -- a line that begins with such a word is neither empty nor that of `script`
 other_word : (w xs ys : List ℕ) → (get_or w 1 99 == 99) ≡ false → get_or ((w ++ xs) ++ ys) 1 99 ≢ 99
@@ -35,18 +33,15 @@ other_word (a ∷ []) xs ys h e = cc
 other_word (a ∷ b ∷ w) xs ys h e = grind (arith, nat_tests)
 
 plain_command : (command : Command) → has_feed (command_line command) ≡ false
-plain_command command =
-    plain (written command).0 (flat_map part_text (written command).1) (first_word command).0 (plain_parts (written command).1)
+plain_command command = grind (arith, nat_tests, plain, first_word, plain_parts)
 
 some_line : (command : Command) → command_line command ≢ []
-some_line command e = other_word (written command).0 (flat_map part_text (written command).1) [] (first_word command).1
-    (ap (λ line. get_or (line ++ []) 1 99) e)
+some_line command e = grind (arith, nat_tests, other_word, first_word, get_or)
 
 -- ---- Lists of lines
 
 filter_one : (line : List ℕ) → line ≢ [] → filter is_some_line (line ∷ []) ≡ line ∷ []
-filter_one [] some = absurd (some refl)
-filter_one (b ∷ line) some = refl
+filter_one line some = grind (arith, nat_tests)
 
 -- ---- The last script
 
@@ -72,22 +67,13 @@ at_last (s ∷ t ∷ scripts) (suc k) command r new count is pushed =
 pub adds_last : (scripts : List (List Command)) (count : ℕ) (command : Command) (r new : List Command) → scripts ≢ []
     → count ≡ length scripts → r ≡ get_or scripts (count - 1) r → new ≡ r ++ command ∷ []
     → AddsLast command scripts (slice_set scripts (count - 1) new)
-adds_last scripts count command r new some is there pushed =
-    at_last scripts (count - 1) command r new (omega (arith, some_script scripts some)) there pushed
+adds_last scripts count command r new some is there pushed = grind (arith, nat_tests, at_last, some_script)
 
 -- ---- The first line is taken
 
 pub takes_empty : (bytes : List ℕ) (scripts : List (List Command)) → true ≡ is_line_end bytes
     → TakesLine AreScripts bytes bytes scripts scripts
-takes_empty bytes scripts e = record {
-  line = [];
-  first = ended [] bytes refl (sym e);
-  shorter = omega arith;
-  adds = λ lines are. record {
-    fit = are.fit;
-    text = filter-append is_some_line lines ([] ∷ []) ∙ append-nil (filter is_some_line lines) ∙ are.text;
-  };
-}
+takes_empty bytes scripts e = grind (arith, nat_tests, ended, filter-append, append-nil)
 
 -- a line that begins a script
 pub takes_script : (bytes behind : List ℕ) (old new : List (List Command)) → bytes ≡ codes "script" ++ behind → true ≡ is_line_end behind
@@ -106,14 +92,7 @@ takes_script bytes behind old new front e pushed = record {
 -- the lines of the last script with one more command
 last_lines : (front : List (List Command)) (last : List Command) (command : Command)
     → flat_map script_lines (front ++ (last ++ command ∷ []) ∷ []) ≡ flat_map script_lines (front ++ last ∷ []) ++ command_line command ∷ []
-last_lines front last command =
-    let own : flat_map script_lines ((last ++ command ∷ []) ∷ []) ≡ script_lines last ++ command_line command ∷ []
-    = append-nil (script_lines (last ++ command ∷ [])) ∙ ap (λ ls. codes "script" ∷ ls) (map_push command_line last command) in
-    let alone : flat_map script_lines (last ∷ []) ≡ script_lines last = append-nil (script_lines last) in
-    flat_map-append script_lines front ((last ++ command ∷ []) ∷ []) ∙ ap (λ ls. flat_map script_lines front ++ ls) own
-    ∙ sym (append_assoc (flat_map script_lines front) (script_lines last) (command_line command ∷ []))
-    ∙ ap (λ ls. ls ++ command_line command ∷ []) (ap (λ ls. flat_map script_lines front ++ ls) (sym alone)
-    ∙ sym (flat_map-append script_lines front (last ∷ [])))
+last_lines front last command = grind (arith, nat_tests, append-nil, codes, map_push, flat_map-append, append_assoc)
 
 add_command : (lines : List (List ℕ)) (command : Command) (old new : List (List Command)) → Fits command → AddsLast command old new
     → AreScripts lines old → AreScripts (lines ++ command_line command ∷ []) new
@@ -165,26 +144,11 @@ refuses scripts bytes some begins none = λ before are.
       };
     }
 
-no_script : (command : Command) (rest behind : List ℕ) → codes "script" ++ behind ≡ command_line command ++ rest → ⊥
-no_script command rest behind e = other_word (written command).0 (flat_map part_text (written command).1) rest (first_word command).1
-    (ap (λ line. get_or line 1 99) (sym e))
-
--- the word `script`, and then more on the line
-pub refuses_script : (scripts : List (List Command)) (bytes behind : List ℕ) → false ≡ is_line_end bytes
-    → bytes ≡ codes "script" ++ behind → false ≡ is_line_end behind → RefusesLine AreScripts IsFirstRefused bytes scripts
-refuses_script scripts bytes behind some front more =
-    refuses scripts bytes some
-    (λ rest ends e. let same : behind ≡ rest = cc in let other : is_line_end behind ≡ true = ap is_line_end same ∙ ends in cc)
-    (λ begun command rest fits ends e. no_script command rest behind (sym front ∙ e))
-
 -- no script was begun
 pub refuses_first : (scripts : List (List Command)) (bytes : List ℕ) (count : ℕ) → false ≡ is_line_end bytes
     → ((rest : List ℕ) → bytes ≢ codes "script" ++ rest) → count ≡ length scripts → true ≡ (count == 0)
     → RefusesLine AreScripts IsFirstRefused bytes scripts
-refuses_first scripts bytes count some other counted none =
-    let zero_count : count ≡ 0 = grind (arith, nat_tests) in
-    refuses scripts bytes some (λ rest ends e. other rest e)
-    (λ begun command rest fits ends e. absurd (omega (arith, some_script scripts begun)))
+refuses_first scripts bytes count some other counted none = grind (arith, nat_tests, refuses, some_script)
 
 -- nothing was read of the line, or less than the line
 pub refuses_read : (scripts : List (List Command)) (bytes : List ℕ) (read : Option (Command × List ℕ)) → false ≡ is_line_end bytes
