@@ -11,14 +11,14 @@ use Rattle.lint_reports.proofs.SourceLemmas.{marked, unmarked}
 -- ---- Lines
 
 few_onto : (b : ℕ) (lines : List (List ℕ)) → length (onto_first b lines) ≤ length lines + 1
-few_onto b x1 = grind (arith, nat_tests)
+few_onto b lines = grind (arith, nat_tests)
 
 few_lines : (bytes : List ℕ) → length (fed_lines bytes) ≤ length bytes
 few_lines [] = omega arith
 few_lines (b ∷ bytes) = grind (arith, few_lines bytes, few_onto b (fed_lines bytes))
 
 joined_onto : (b : ℕ) (lines : List (List ℕ)) → joined (onto_first b lines) ≡ b ∷ joined lines
-joined_onto b x1 = grind (arith, nat_tests)
+joined_onto b lines = grind (arith, nat_tests)
 
 joined_lines : (bytes : List ℕ) → joined (fed_lines bytes) ≡ bytes
 joined_lines [] = refl
@@ -37,7 +37,7 @@ still few many [] less are = tt
 still few many (x ∷ xs) less are = (omega (arith, less, are.0), still few many xs less are.1)
 
 short_onto : (line : List ℕ) (most : ℕ) (xs : List (List ℕ)) → AreShort most xs → AreShort (length line + most) (onto line xs)
-short_onto line most x2 are = grind (arith, nat_tests, length-append, still, length)
+short_onto line most xs are = grind (arith, nat_tests, length-append, still)
 
 short_parts : (lines : List (List ℕ)) → AreShort (length (joined lines)) (map joined (slice_split is_mark lines))
 short_parts [] = (omega arith, tt)

@@ -34,7 +34,7 @@ unfed_all (b ∷ (c ∷ bytes)) before some = unfed b (c ∷ bytes) (All-head ot
     ∙ ap (onto_first b) (unfed_all (c ∷ bytes) (All-tail other b (c ∷ bytes) before) (λ e. cc))
 
 some_taken : (bytes : List ℕ) (n : ℕ) → n < length bytes → take (suc n) bytes ≡ [] → bytes ≡ []
-some_taken x0 n h none = grind (arith, nat_tests)
+some_taken bytes n h none = grind (arith, nat_tests)
 
 pub first_fed : (bytes : List ℕ) (n : ℕ) → n < length bytes → All other (take n bytes) → slice_index bytes n ≡ 10
     → IsFirstLine bytes (take (n + 1) bytes)
@@ -56,19 +56,19 @@ parts lines = map joined (slice_split is_mark lines)
 
 onto_joined : (line : List ℕ) (groups : List (List (List ℕ))) → 0 < length groups
     → map joined (onto_first line groups) ≡ onto line (map joined groups)
-onto_joined line x1 some = grind (arith, nat_tests)
+onto_joined line groups some = grind (arith, nat_tests)
 
 onto_none : (xs : List (List ℕ)) → onto [] xs ≡ xs
-onto_none x0 = grind (arith, nat_tests)
+onto_none xs = grind (arith, nat_tests)
 
 onto_both : (a b : List ℕ) (xs : List (List ℕ)) → onto a (onto b xs) ≡ onto (a ++ b) xs
-onto_both a b x2 = grind (arith, nat_tests, append_assoc)
+onto_both a b xs = grind (arith, nat_tests, append_assoc)
 
 pub marked : (line : List ℕ) (lines : List (List ℕ)) → is_mark line ≡ true → parts (line ∷ lines) ≡ [] ∷ parts lines
 marked line lines is = ap (map joined) (slice_split-cons_yes is_mark line lines is)
 
 pub unmarked : (line : List ℕ) (lines : List (List ℕ)) → is_mark line ≡ false → parts (line ∷ lines) ≡ onto line (parts lines)
-unmarked line lines is = grind (arith, nat_tests, map, slice_split-cons_no, onto_joined, length-slice_split)
+unmarked line lines is = grind (arith, nat_tests, slice_split-cons_no, onto_joined, length-slice_split)
 
 -- ---- Lines that have no percent sign
 
@@ -77,7 +77,7 @@ BeginUnmarked [] = Unit {0}
 BeginUnmarked (line ∷ lines) = is_mark line ≡ false
 
 no_mark : (b : ℕ) (line : List ℕ) → b ≢ 37 → is_mark (b ∷ line) ≡ false
-no_mark b line other = grind (arith, nat_tests, false)
+no_mark b line other = grind (arith, nat_tests)
 
 begin_unmarked : (b : ℕ) (bytes : List ℕ) → b ≢ 37 → BeginUnmarked (fed_lines (b ∷ bytes))
 begin_unmarked b bytes other = by (b == 10) (fed_lines bytes)
@@ -90,7 +90,7 @@ begin_unmarked b bytes other = by (b == 10) (fed_lines bytes)
 -- a byte before lines that don't begin with a mark
 onto_unmarked : (b : ℕ) (lines : List (List ℕ)) → b ≢ 37 → BeginUnmarked lines
     → parts (onto_first b lines) ≡ onto (b ∷ []) (parts lines)
-onto_unmarked b x1 other is = grind (arith, nat_tests, no_mark, onto_both)
+onto_unmarked b lines other is = grind (arith, nat_tests, no_mark, onto_both)
 
 one_on : (b : ℕ) (bytes : List ℕ) → b ≢ 37 → (b ≢ 10 → BeginUnmarked (fed_lines bytes))
     → sources (b ∷ bytes) ≡ onto (b ∷ []) (sources bytes)
@@ -134,7 +134,7 @@ cut_none bytes = record { inside = omega arith; within = omega arith; are = sym 
 
 pub cut_on : (bytes : List ℕ) (all : List (List ℕ)) (rest : List ℕ) (seen n : ℕ) → Cut bytes all rest seen → IsPassed (drop seen rest) n
     → Cut bytes all rest (seen + n)
-cut_on bytes all rest seen n cut passed = grind (arith, nat_tests, length-drop, take, onto_both, drop, take-add, drop-drop)
+cut_on bytes all rest seen n cut passed = grind (arith, nat_tests, length-drop, onto_both, take-add, drop-drop)
 
 pub cut_last : (bytes : List ℕ) (all : List (List ℕ)) (rest : List ℕ) (seen : ℕ) → Cut bytes all rest seen → seen ≡ length rest
     → all ++ rest ∷ [] ≡ sources bytes
@@ -161,14 +161,14 @@ module _ (bytes : List ℕ) (all : List (List ℕ)) (rest : List ℕ) (seen : �
   some more none = more (omega (arith, cut.within, length-drop seen rest, ap length (is.none none)))
 
   behind_is : drop (seen + length line) rest ≡ is.behind
-  behind_is = grind (arith, nat_tests, drop, length, whole, counted, drop-append-add, drop-append_seam)
+  behind_is = grind (arith, nat_tests, whole, counted, drop-append-add, drop-append_seam)
 
   seen_is : take (seen + length line) rest ≡ before ++ line
-  seen_is = grind (arith, nat_tests, take, length, whole, counted, take-append-add, take-append_seam)
+  seen_is = grind (arith, nat_tests, whole, counted, take-append-add, take-append_seam)
 
   pub cut_mark : (new : List (List ℕ)) → seen ≢ length rest → is_mark line ≡ true → new ≡ all ++ take seen rest ∷ []
       → Cut bytes new (drop (seen + length line) rest) 0
-  cut_mark new more mark added = grind (arith, nat_tests, drop, some, length-drop, length, append-nil, append_assoc, behind_is, onto_none)
+  cut_mark new more mark added = grind (arith, nat_tests, some, length-drop, append-nil, append_assoc, behind_is, onto_none)
 
   pub cut_line : seen ≢ length rest → is_mark line ≡ false → Cut bytes all rest (seen + length line)
   cut_line more mark =

@@ -1,6 +1,5 @@
 use Rattle.std.proofs.lemmas.Bool.Decides.{nat_tests}
-use Rattle.std.proofs.Common.{arith}
-use Rattle.std.proofs.Common.{sym, rules}
+use Rattle.std.proofs.Common.{arith, sym, rules}
 use Rattle.lint_reports.proofs.SourceLemmas.{cut_on, cut_last, cut_mark, cut_line, seen_within}
 use Rattle.lint_reports.proofs.sources.sources_of.Goals as goal
 
