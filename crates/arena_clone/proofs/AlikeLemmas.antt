@@ -1,5 +1,6 @@
 -- Options, lists and maps that are alike.
-use Rattle.std.proofs.Common.{◌≡◌, ℕ, zero, suc, ◌↔◌, ap, sym, ◌∙◌, refl, arith, Option, Some, None, List, [], ◌∷◌}
+use Rattle.std.proofs.lemmas.Bool.Decides.{nat_tests}
+use Rattle.std.proofs.Common.{◌≡◌, ℕ, zero, suc, ◌↔◌, ap, sym, ◌∙◌, refl, arith, Option, Some, List, [], ◌∷◌}
 use Rattle.std.specs.Prelude.{is_some, slice_get}
 use Rattle.arena_chunks.specs.Memory.{Memory}
 use Rattle.std.proofs.Math.Path.{fun_ext}
@@ -21,10 +22,7 @@ cons_same x y xs ys same = (cc, cc)
 module _ {T : Type 0} (kind : Kind T) (ids : CloneInSemanticIds) (a c : Memory) where
   -- Two options are alike if and only if both are `None`, or their values are alike.
   pub options_alike : (v w : Option T) → AreAlike (option_of kind) ids a v c w ↔ AreOptionsAlike kind ids a v c w
-  options_alike None None = ((λ same. tt), (λ alike. refl))
-  options_alike None (Some w) = ((λ same. cc), (λ alike. absurd alike))
-  options_alike (Some v) None = ((λ same. cc), (λ alike. absurd alike))
-  options_alike (Some v) (Some w) = (some_same _ _, (λ alike. ap Some alike))
+  options_alike v w = grind (arith, nat_tests, some_same)
 
   -- Two lists are alike if and only if their values are, position by position.
   lists_apart : (vs ws : List T) → AreAlike (row_of kind) ids a vs c ws → AreListsAlike kind ids a vs c ws
@@ -58,8 +56,7 @@ module _ {K V S : Type 0} (k : MapTypes K V S) (is_default : S → Type 0) (keys
   -- the meaning of what is found under a content is that of its value
   found_means : (m : Memory) (o : Option (K × V))
       → of_some (λ (p : K × V). values.whole m p.1) o ≡ of_some (values.whole m) (value_of o)
-  found_means m None = refl
-  found_means m (Some p) = refl
+  found_means m o = grind (arith, nat_tests)
 
   -- Two maps are alike if and only if what is found under each content is.
   pub maps_alike : (v w : HashMap K V S) → AreAlike (map_of k is_default keys values) ids a v c w ↔ AreMapsAlike k values ids a v c w
@@ -75,8 +72,7 @@ module _ {K V S : Type 0} (k : MapTypes K V S) (is_default : S → Type 0) (keys
       found q = options_alike values ids a c (value_of (map_in k a v q)) (value_of (map_in k c w q))
 
   some_of : {A B : Type 0} (f : A → B) (o : Option A) → is_some (of_some f o) ≡ is_some o
-  some_of f None = refl
-  some_of f (Some x) = refl
+  some_of f o = grind (arith, nat_tests)
 
   -- The same contents are keys of both then.
   pub alike_keys : (v w : HashMap K V S) → AreAlike (map_of k is_default keys values) ids a v c w

@@ -95,9 +95,4 @@ asks_least (TooMuch ∷ xs) old new bs fit asked = absurd (let no = asked.0 in c
 -- One block or table that is refused leaves the state as it was.
 pub one_none : (x : Ask) (old new : View) (bs : List Block) (e : AllocError) → have_layouts (x ∷ []) → AsksFor (x ∷ []) old new bs (Some e)
     → new.memory.state ≡ old.memory.state
-one_none (Room size align) old new bs e fit asked = takes_none fit.0 asked e refl (λ between rest more. more.0)
-one_none (Table pairs slot align) old new bs e fit (slots, are, asked) =
-    takes_none (fit.0 slots are) asked e refl (λ between rest more. more.0)
-one_none NoBytes old new bs e fit (b, rest, none, is, more) = absurd (let no = more.0 in cc)
-one_none (Empty align) old new bs e fit (rest, is, more) = absurd (let no = more.0 in cc)
-one_none TooMuch old new bs e fit asked = asked.2.state
+one_none x old new bs e fit asked = grind (arith, nat_tests, takes_none)

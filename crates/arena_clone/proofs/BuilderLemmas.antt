@@ -1,4 +1,5 @@
 -- Copies of text builders: room is made for exactly the bytes, and then they are copied.
+use Rattle.std.proofs.lemmas.Bool.Decides.{nat_tests}
 use Rattle.std.proofs.Common.{◌≡◌, ap, sym, refl, ◌∙◌, arith, List, [], ◌∷◌, take, Ok, Err, IsTrue}
 use Rattle.std.specs.Prelude.{Result}
 use Rattle.std.proofs.lemmas.List.{take_all}
@@ -12,7 +13,6 @@ use Rattle.arena_items.specs.declared.room.AllocError.{AllocError}
 use Rattle.arena_items.proofs.Layers.{written_held, wrote_same}
 use Rattle.arena_text.specs.Builders.{IsBuilderIn}
 use Rattle.arena_text.specs.Changes.{Makes}
-use Rattle.arena_text.specs.Growth.{new_growth}
 use Rattle.arena_text.specs.declared.text.StringBuilder.{StringBuilder}
 use Rattle.arena_clone.specs.Asks.{AsksFor, refusal}
 use Rattle.arena_clone.specs.Kinds.{builder, text_ask}
@@ -24,8 +24,7 @@ use Rattle.arena_clone.proofs.VectorLemmas.{made_asked}
 
 room_asked : {old mid : View} (t : StringBuilder) (result : Result StringBuilder AllocError) → Makes old mid t.len [] result
     → AsksFor (text_ask t.len ∷ []) old mid (block_of (λ (u : StringBuilder). u.block) result) (refusal result)
-room_asked {old} {mid} t result makes =
-    made_asked (λ (u : StringBuilder). u.block) 1 1 0 old mid (new_growth t.len) (λ more grows. refl) result makes.made makes.err
+room_asked {old} {mid} t result makes = grind (arith, nat_tests, made_asked)
 
 -- The room is refused,
 pub builder_refused : (ids : CloneInSemanticIds) (source : Memory) (t : StringBuilder) {old new : View} {e : AllocError}

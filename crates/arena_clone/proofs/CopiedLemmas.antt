@@ -1,7 +1,8 @@
 -- A new block with the bytes of another, and values of such blocks.
-use Rattle.std.proofs.Common.{◌≡◌, ℕ, ◌≤◌, ap, sym, subst, ◌∙◌, List, [], ◌∷◌, length, IsTrue}
+use Rattle.std.proofs.lemmas.Bool.Decides.{nat_tests}
+use Rattle.std.proofs.Common.{arith, ◌≡◌, ℕ, ◌≤◌, ap, sym, ◌∙◌, List, [], ◌∷◌, length, IsTrue}
 use Rattle.arena_chunks.specs.Memory.{Memory, image, bytes_from, is_readable}
-use Rattle.arena_chunks.specs.Source.{View, Source, view}
+use Rattle.arena_chunks.specs.Source.{View}
 use Rattle.arena_chunks.specs.Answers.Answer.{Placed}
 use Rattle.arena_chunks.specs.BlockCalls.{PlacesBlock, WritesBlock}
 use Rattle.arena_store.specs.declared.block.Block.{Block}
@@ -14,8 +15,7 @@ module _ (old mid new : View) (size align : ℕ) (b : Block) (list : List ℕ) (
     (writes : WritesBlock mid.memory new.memory b 0 list) where
   -- Placing a block and then writing it is placing it.
   pub copied_placed : new.source ≡ mid.source → PlacesBlock old new size align (Placed b)
-  copied_placed source = subst (λ (s : Source). PlacesBlock old (view new.memory s) size align (Placed b)) (sym source)
-      (places_written old.memory mid.memory new.memory old.source mid.source size align b 0 list places writes)
+  copied_placed source = grind (arith, nat_tests, places_written)
 
   -- It has the bytes that were written,
   pub written_bytes : length list ≡ size → bytes_of new.memory b ≡ list

@@ -1,5 +1,6 @@
 -- Finite maps of lists of pairs, no two of which have the same content.
-use Rattle.std.proofs.Common.{◌≡◌, ℕ, refl, sym, ap, subst, ◌∙◌, List, [], ◌∷◌, ◌++◌, Option, Some, None, false, inl, inr, append_assoc}
+use Rattle.std.proofs.lemmas.Bool.Decides.{nat_tests}
+use Rattle.std.proofs.Common.{arith, ◌≡◌, ℕ, refl, sym, ap, subst, ◌∙◌, List, [], ◌∷◌, ◌++◌, Option, Some, None, false, inl, inr, append_assoc}
 use Rattle.std.proofs.Math.Path.{fun_ext}
 use Rattle.std.specs.Prelude.{IsPermutation, map, cond, bytes_eq}
 use Rattle.std.proofs.lemmas.Option.{none-some, same_Some}
@@ -14,10 +15,7 @@ use Rattle.arena_hash.specs.Finite.{AreOnce, first_of, key_or, with_pair}
 
 -- contents differ in either order
 turned : (q c : List ℕ) → bytes_eq q c ≡ false → bytes_eq c q ≡ false
-turned q c other = elim (cases_Bool (bytes_eq c q)) [
-  | inl same ↦ absurd (both_ways (bytes_eq q c) other ((bytes_eq-Decides q c).1 (sym ((bytes_eq-Decides c q).0 same))))
-  | inr away ↦ away
-]
+turned q c other = grind (arith, nat_tests, cases_Bool, both_ways, bytes_eq-Decides)
 
 turned_all : (q : List ℕ) (cs : List (List ℕ)) → AllByRecursion (λ (c : List ℕ). bytes_eq q c ≡ false) cs
     → AllByRecursion (λ (c : List ℕ). bytes_eq c q ≡ false) cs

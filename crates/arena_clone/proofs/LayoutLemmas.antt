@@ -1,6 +1,5 @@
 -- A block that is readable has a layout, so one of its size may be placed.
-use Rattle.std.proofs.Common.{◌≡◌, ℕ, ◌+◌, ◌-◌, ◌^◌, ◌≤◌, refl, arith, true, IsTrue}
-use Rattle.std.specs.Prelude.{nat_le}
+use Rattle.std.proofs.Common.{◌≡◌, ℕ, ◌+◌, ◌^◌, ◌≤◌, refl, arith, true, IsTrue}
 use Rattle.std.proofs.lemmas.Bool.Decides.{nat_tests}
 use Rattle.arena_rules.specs.Rounding.{up, is_power, is_power_among, is_layout}
 use Rattle.arena_rules.specs.State.{State, IsValid}
@@ -9,7 +8,7 @@ use Rattle.arena_store.specs.declared.block.Block.{Block}
 pub use Rattle.arena_chunks.proofs.Layers.{readable_size}
 use Rattle.arena_items.specs.Layout.{IsAlign}
 use Rattle.arena_items.specs.Layout.IsAlign.{one, two, four, eight, sixteen}
-use Rattle.arena_items.specs.LayoutLaws.{IsAlign-bounds, up-is}
+use Rattle.arena_items.specs.LayoutLaws.{IsAlign-bounds}
 
 power : (align : ℕ) → IsAlign align → is_power align ≡ true
 unfolding is_power_among
@@ -21,11 +20,8 @@ power _ sixteen = refl
 
 -- A size has a layout of an item's alignment if their sum is at most 2 ^ 63.
 pub fits_layout : (size align : ℕ) → IsAlign align → size + align ≤ 2 ^ 63 → IsTrue (is_layout size align)
-fits_layout size align is few =
-    let near = up-is size align is in
-    let bounds = IsAlign-bounds align is in
-    let fits : nat_le (up size align) (2 ^ 63 - 1) ≡ true = grind (arith, nat_tests) in
-    rw (power align is, fits) refl
+unfolding is_power_among up
+fits_layout size align is few = grind (arith, nat_tests, power)
 
 pub readable_layout : (state : State) (b : Block) (align : ℕ) → IsValid state → IsAlign align → IsTrue (is_readable state b)
     → IsTrue (is_layout b.size align)

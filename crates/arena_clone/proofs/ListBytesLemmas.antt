@@ -1,6 +1,6 @@
 -- The bytes that copies of lists and of texts bring into use.
-use Rattle.std.proofs.Common.{◌≡◌, ℕ, ◌+◌, ◌-◌, ◌*◌, ◌^◌, ◌≤◌, inl, inr, refl, subst, arith, Option, None, List, [], ◌∷◌, Bool, true, false, IsTrue}
-use Rattle.std.specs.Prelude.{nat_le, ◌&&◌, if◌then◌else◌}
+use Rattle.std.proofs.Common.{◌≡◌, ℕ, ◌+◌, ◌-◌, ◌*◌, ◌^◌, ◌≤◌, subst, arith, Option, None, List, [], ◌∷◌, Bool, true, IsTrue}
+use Rattle.std.specs.Prelude.{nat_le, if◌then◌else◌}
 use Rattle.std.proofs.lemmas.Bool.{cases_eq}
 use Rattle.std.proofs.lemmas.Bool.Decides.{nat_tests}
 use Rattle.arena_rules.specs.Rounding.{is_layout}
@@ -13,7 +13,7 @@ use Rattle.arena_items.specs.declared.room.Growth.{Growth}
 use Rattle.arena_items.specs.declared.room.Growth.TheVariants.{Stays, GrowsTo, Overflows}
 use Rattle.arena_items.specs.declared.room.AllocError.{AllocError}
 use Rattle.arena_text.specs.Growth.{new_growth as text_growth, growth_to as text_growth_to}
-use Rattle.arena_vec.specs.Growth.{new_growth, empty_capacity, fits, growth_to}
+use Rattle.arena_vec.specs.Growth.{new_growth, fits, growth_to}
 use Rattle.arena_clone.specs.Asks.{Ask, AsksFor, ask_by, vector_ask}
 use Rattle.arena_clone.specs.Kinds.{text_ask}
 use Rattle.arena_clone.specs.Asks.Ask.{Room, Empty, TooMuch}
@@ -30,21 +30,12 @@ IsRoomOf bytes size align Overflows = Unit {0}
 room_of : (is_there can : Bool) (bytes size align n : ℕ) → (is_there ≡ true → bytes ≡ 0)
     → (can ≡ true → (n * size ≡ bytes) × IsTrue (is_layout (n * size) align))
     → IsRoomOf bytes size align (if is_there then Stays else (if can then GrowsTo n else Overflows))
-room_of true can bytes size align n none some = none refl
-room_of false true bytes size align n none some = some refl
-room_of false false bytes size align n none some = tt
+room_of is_there can bytes size align n none some = grind (arith, nat_tests)
 
 -- A new vector takes room for exactly its values,
 vector_room : (size align n : ℕ) → IsAlign align → IsRoomOf (n * size) size align (new_growth size n)
 unfolding fits growth_to
-vector_room size align n is =
-    let bounds = IsAlign-bounds align is in
-    room_of (nat_le n (empty_capacity size)) (nat_le n (2 ^ 32 - 1) && nat_le (n * size) (2 ^ 32 - 1)) (n * size) size align n
-    (λ below. elim (cases_eq size 0) [
-      | inl none ↦ grind (arith, nat_tests)
-      | inr some ↦ grind (arith, nat_tests)
-    ])
-    (λ can. (refl, fits_layout (n * size) align is (grind (arith, nat_tests))))
+vector_room size align n is = grind (arith, nat_tests, room_of, cases_eq, fits_layout)
 
 -- and a new text for its bytes.
 text_room : (n : ℕ) → IsRoomOf n 1 1 (text_growth n)

@@ -1,5 +1,6 @@
 -- Copies of maps: the table that is placed, and what it has once all pairs were put.
-use Rattle.std.proofs.Common.{◌≡◌, ℕ, zero, suc, ◌+◌, ◌*◌, ◌/◌, ◌^◌, ◌<◌, refl, sym, ap, subst, ◌∙◌, arith, mul-div_cancel, zero-mul, length, List, [], ◌∷◌, Option, Some, Ok, Err, Bool, true, false}
+use Rattle.std.proofs.lemmas.Bool.Decides.{nat_tests}
+use Rattle.std.proofs.Common.{◌≡◌, ℕ, zero, suc, ◌+◌, ◌*◌, ◌^◌, ◌<◌, refl, sym, ap, subst, ◌∙◌, arith, mul-div_cancel, zero-mul, length, List, [], ◌∷◌, Option, Some, Ok, Err, Bool, true, false}
 use Rattle.std.proofs.Math.Path.{fun_ext}
 use Rattle.std.specs.Prelude.{Result, IsPermutation, cond, map, bytes_eq}
 use Rattle.std.specs.List.{IsDistinct, flat_map}
@@ -11,8 +12,7 @@ use Rattle.arena_chunks.proofs.Layers.{frame_reflexive, frame_then}
 use Rattle.arena_items.specs.Room.{SamePlaces}
 use Rattle.arena_items.specs.declared.room.AllocError.{AllocError}
 use Rattle.arena_hash.specs.Changes.{PlacesMap}
-use Rattle.arena_hash.specs.Contents.{content_in}
-use Rattle.arena_hash.specs.Contents.{Kind as MapTypes}
+use Rattle.arena_hash.specs.Contents.{content_in, Kind as MapTypes}
 use Rattle.arena_hash.specs.Finite.{AreOnce, first_of}
 use Rattle.arena_hash.specs.Maps.{IsMapIn, pairs_in}
 use Rattle.arena_hash.specs.Policy.{table_align, slot_size}
@@ -75,8 +75,7 @@ table_empty places = record {
 
 -- tables with as many bytes have as many slots
 same_slots : (slots other size : ℕ) → slots * (size + 1) ≡ other * (size + 1) → slots ≡ other
-same_slots slots other size same =
-    sym (mul-div_cancel slots (omega arith)) ∙ ap (λ n. n / (size + 1)) same ∙ mul-div_cancel other (omega arith)
+same_slots slots other size same = grind (arith, nat_tests, mul-div_cancel)
 
 no_slots : (slots size : ℕ) → slots * (size + 1) ≡ 0 → slots ≡ 0
 no_slots slots size none = same_slots slots 0 size (none ∙ sym (zero-mul (size + 1)))
@@ -85,15 +84,7 @@ no_slots slots size none = same_slots slots 0 size (none ∙ sym (zero-mul (size
 copy_fits : {K V S : Type 0} (k : MapTypes K V S) {source new : Memory} {old mid : View} {xs ys : List (K × V)} {e w : HashMap K V S}
     {n : ℕ} → PlacesMap {X = HashMap K V S} k (λ m. m) old mid n (Ok e) → HoldsCopies k source new e xs ys w → n ≡ length xs
     → IsTableFor w.len w.table.slots
-copy_fits k {e} {w} {n} places holds count =
-    let bytes : w.table.block.size ≡ e.table.block.size = ap (λ b. b.size) holds.block in
-    let same : w.table.slots ≡ e.table.slots = same_slots _ _ (k.keys.SIZE + k.values.SIZE)
-    (sym holds.held.handle.place.of_size ∙ bytes ∙ places.held.handle.place.of_size) in
-    let len : w.len ≡ n = holds.len ∙ sym count in
-    rw (same, len) (
-      (λ none. no_slots _ (k.keys.SIZE + k.values.SIZE) (sym places.held.handle.place.of_size ∙ (places.none none).1.block)),
-      places.slots,
-    )
+copy_fits k {e} {w} {n} places holds count = grind (arith, nat_tests, same_slots, no_slots)
 
 one_each : {A : Type 0} (xs : List A) → flat_map (λ x. x ∷ []) xs ≡ xs
 one_each [] = refl

@@ -1,5 +1,6 @@
 -- The sources of copies stay as they were while the copies are made.
-use Rattle.std.proofs.Common.{◌≡◌, ℕ, zero, suc, ◌+◌, subst, sym, List, [], ◌∷◌, ◌++◌, Some, Ok, Err, IsTrue}
+use Rattle.std.proofs.lemmas.Bool.Decides.{nat_tests}
+use Rattle.std.proofs.Common.{arith, ◌≡◌, ℕ, zero, suc, ◌+◌, subst, sym, List, [], ◌∷◌, ◌++◌, Some, Ok, Err, IsTrue}
 use Rattle.std.specs.Prelude.{Result, slice_get}
 use Rattle.std.specs.List.{AllByRecursion, flat_map}
 use Rattle.arena_chunks.specs.Memory.{Memory, is_readable}
@@ -59,8 +60,7 @@ module _ {there : Memory → Memory} {is_beside : Block → List Block → Type 
           (blocks_kept (kind.deep (there old) v) (is.readable (there old) v held) beside).0
 
       pub value_beside : AreBeside is_beside (kind.deep (there new) v) after
-      value_beside = subst (λ bs. AreBeside is_beside bs after) (sym (is.deep (there old) (there new) v value_agrees))
-          (blocks_kept (kind.deep (there old) v) (is.readable (there old) v held) beside).2
+      value_beside = grind (arith, nat_tests, blocks_kept)
 
       -- A copy of one that is made then is a copy of what it was.
       pub value_copied : {ids : CloneInSemanticIds} {to later : View} {result : Result T AllocError}
@@ -101,8 +101,7 @@ module _ {there : Memory → Memory} {is_beside : Block → List Block → Type 
     module _ {x : T} (found : slice_get (values mid.memory) i ≡ Some x) where
       -- The same values are read,
       found_before : slice_get (values old.memory) i ≡ Some x
-      found_before =
-          rw (origin.kept old.memory mid.memory (target ∷ []) (target ∷ copied.blocks) from copied.frame readable beside.0).bytes found
+      found_before = grind (arith, nat_tests)
 
       one_held : kind.is_held (there old.memory) x
       one_held = all_at (kind.is_held (there old.memory)) (values old.memory) i x held found_before

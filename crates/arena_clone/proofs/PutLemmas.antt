@@ -17,8 +17,7 @@ use Rattle.arena_items.proofs.Layers.{stays_readable, stays_agree}
 use Rattle.arena_hash.specs.Accounts.{spare_of}
 use Rattle.arena_hash.specs.AgreeLaws.{meaning-agree, held-agree}
 use Rattle.arena_hash.specs.Changes.{Puts, is_value}
-use Rattle.arena_hash.specs.Contents.{content_in}
-use Rattle.arena_hash.specs.Contents.{Kind as MapTypes}
+use Rattle.arena_hash.specs.Contents.{content_in, Kind as MapTypes}
 use Rattle.arena_hash.specs.Finite.{Finite, AreOnce, first_of, with_pair, has}
 use Rattle.arena_hash.specs.Maps.{IsMapIn, map_in, footprint}
 use Rattle.arena_hash.specs.Policy.{growth_for, limit}
@@ -125,11 +124,7 @@ module _ {K V S : Type 0} {k : MapTypes K V S} {keys : Kind K} {values : Kind V}
     (puts : PutsFirst k keys values ids source old mid m slots i w) where
   -- A free slot has none.
   pub puts_free : slice_get slots i ≡ Some None → PutsFirst k keys values ids source old mid m slots (i + 1) w
-  puts_free free = record {
-    ys = puts.ys;
-    row = rw (items_free slots i free) puts.row;
-    holds = rw (items_free slots i free) puts.holds;
-  }
+  puts_free free = grind (arith, nat_tests, items_free)
 
   -- ---- One more
 

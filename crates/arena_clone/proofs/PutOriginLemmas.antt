@@ -1,10 +1,10 @@
 -- Copies of a map's pairs: the map stays while they are made.
-use Rattle.std.proofs.Common.{◌≡◌, ℕ, ap, ◌∙◌, List, [], ◌∷◌, Option, Some}
+use Rattle.std.proofs.lemmas.Bool.Decides.{nat_tests}
+use Rattle.std.proofs.Common.{arith, ◌≡◌, ℕ, ap, ◌∙◌, List, [], ◌∷◌, Option, Some}
 use Rattle.std.specs.Prelude.{Result, slice_get}
 use Rattle.arena_chunks.specs.Memory.{Memory}
 use Rattle.arena_chunks.specs.Source.{View}
 use Rattle.arena_store.specs.declared.block.Block.{Block}
-use Rattle.arena_items.specs.FootprintLaws.{held_again}
 use Rattle.arena_items.specs.declared.room.AllocError.{AllocError}
 use Rattle.arena_hash.specs.Contents.{Kind as MapTypes}
 use Rattle.arena_hash.specs.Maps.{IsMapIn, pairs_in}
@@ -37,10 +37,7 @@ module _ {there : Memory → Memory} {is_beside : Block → List Block → Type 
       held.0.handle.place.readable beside.0
 
   pub handle_kept : IsTableHandle k.keys k.values (there mid.memory) h.table
-  handle_kept = record {
-    place = held_again _ _ (there old.memory).state (there mid.memory).state h.table.block held.0.handle.place table_kept.readable;
-    ring = held.0.handle.ring;
-  }
+  handle_kept = grind (arith, nat_tests, table_kept)
 
   -- with its pairs,
   pub slot_before : (o : Option (K × V)) → slice_get (slots mid.memory) i ≡ Some o → slice_get (slots old.memory) i ≡ Some o

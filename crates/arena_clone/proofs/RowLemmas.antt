@@ -1,5 +1,6 @@
 -- Copies of sequences of values: of none, of one more, and of all.
-use Rattle.std.proofs.Common.{◌≡◌, ℕ, zero, suc, ◌+◌, ◌≤◌, refl, sym, ap, subst, List, [], ◌∷◌, ◌++◌, Some, None, Ok, Err, take, drop, length, add-one, IsTrue}
+use Rattle.std.proofs.lemmas.Bool.Decides.{nat_tests}
+use Rattle.std.proofs.Common.{arith, ◌≡◌, ℕ, zero, suc, ◌+◌, ◌≤◌, refl, sym, ap, subst, List, [], ◌∷◌, ◌++◌, Some, None, Ok, Err, take, drop, length, add-one, IsTrue}
 use Rattle.std.specs.Prelude.{Result, IsPermutation, slice_get}
 use Rattle.std.proofs.lemmas.List.Sorted.{IsPermutation-refl, IsPermutation-append}
 use Rattle.std.specs.List.{AllByRecursion, flat_map}
@@ -77,10 +78,7 @@ module _ {T X : Type 0} {kind : Kind T} (is : IsLawful kind) {ids : CloneInSeman
         (stays_apart mid.memory between.memory copy.blocks (target ∷ row.blocks) row_stays)
 
     both_frame : Frame old.memory between.memory (target ∷ []) (target ∷ row.blocks ++ copy.blocks)
-    both_frame =
-        frame_then _ _ _ _ _ _ row.frame (frame_weaken _ _ _ (target ∷ row.blocks) _ (target ∷ row.blocks ++ copy.blocks)
-        (λ addr n some apart. tt) (λ addr n some apart rest. apart_both addr n (target ∷ row.blocks) copy.blocks apart rest)
-        copy.placed.frame)
+    both_frame = grind (arith, nat_tests, frame_then, frame_weaken, apart_both)
 
   -- If one is refused the call is, whatever it was to copy after it.
   pub row_refused : (rest : List T) {Y : Type 0} {zs : List T} {new : View} {e : AllocError} → Copies kind ids source mid new x (Err e)

@@ -1,6 +1,7 @@
 -- Copies of maps whose keys and values name no block, with hashers that all hash alike: the bytes of a table, copied
 -- elsewhere, are the table of a copy.
-use Rattle.std.proofs.Common.{◌≡◌, ℕ, zero, suc, inl, inr, ◌*◌, ◌<◌, ◌≤◌, ◌⊎◌, refl, sym, ap, subst, ◌∙◌, arith, List, [], ◌∷◌, Option, Some, None, Ok, Err, length}
+use Rattle.std.proofs.lemmas.Bool.Decides.{nat_tests}
+use Rattle.std.proofs.Common.{◌≡◌, ℕ, inl, inr, ◌*◌, ◌<◌, ◌≤◌, ◌⊎◌, refl, sym, ap, subst, ◌∙◌, arith, List, [], ◌∷◌, Option, Some, None, Ok, Err, length}
 use Rattle.std.proofs.Math.Path.{fun_ext}
 use Rattle.std.proofs.lemmas.Bool.{eq-eqb, or_left}
 use Rattle.std.proofs.lemmas.List.Sorted.{IsPermutation-cons}
@@ -16,8 +17,7 @@ use Rattle.arena_items.specs.LayoutLaws.{plain_8, pair_layout}
 use Rattle.arena_items.specs.Room.{RoomAnswer}
 use Rattle.arena_items.specs.Values.{bytes_of, IsHeld}
 use Rattle.arena_items.specs.declared.room.AllocError.{AllocError}
-use Rattle.arena_hash.specs.Contents.{content_in, IsFixed}
-use Rattle.arena_hash.specs.Contents.{Kind as MapTypes}
+use Rattle.arena_hash.specs.Contents.{content_in, IsFixed, Kind as MapTypes}
 use Rattle.arena_hash.specs.Finite.{AreOnce, first_of}
 use Rattle.arena_hash.specs.Maps.{IsMapIn, map_in, pairs_in}
 use Rattle.arena_hash.specs.Policy.{slot_size, table_align, limit, IsSlotsFor}
@@ -25,7 +25,6 @@ use Rattle.arena_hash.specs.Slots.{items}
 use Rattle.arena_hash.specs.Tables.{slots_of, IsTable, IsRing}
 use Rattle.arena_hash.specs.declared.map.HashMap.{HashMap}
 use Rattle.arena_clone.specs.Asks.{PlacesAll, refusal}
-use Rattle.arena_clone.specs.Asks.Ask.{Room}
 use Rattle.arena_clone.specs.Kinds.{Kind, of_some, row_of}
 use Rattle.arena_clone.specs.MapKind.{KeepsContent, pair_of, map_of, table_ask, IsTableFor}
 use Rattle.arena_clone.specs.Copies.{IsFlat, IsMade, Copies}
@@ -55,12 +54,7 @@ module _ {K V S : Type 0} (k : MapTypes K V S) (old new : View) where
   table_asked : {X : Type 0} (f : X → Block) (result : Result X AllocError) (slots len : ℕ) → 0 < len → IsSlotsFor len slots
       → RoomAnswer f result (PlacesBlock old new (slots * slot_size k.keys.SIZE k.values.SIZE) (table_align k.keys.ALIGN k.values.ALIGN))
       → PlacesAll (table_ask k len ∷ []) old new (block_of f result) (refusal result)
-  table_asked f result slots zero some are placed = absurd (omega (arith, some))
-  table_asked f result slots (suc n) some are placed =
-      let size = slots * slot_size k.keys.SIZE k.values.SIZE in
-      let one : PlacesAll (Room size (table_align k.keys.ALIGN k.values.ALIGN) ∷ []) old new (block_of f result) (refusal result) =
-      places_one f result placed in
-      record { asked = (slots, are, one.asked); apart = one.apart; frame = one.frame }
+  table_asked f result slots len some are placed = grind (arith, nat_tests, block_of, places_one)
 
 -- ---- What is in it
 
@@ -169,12 +163,4 @@ module _ {K V S : Type 0} (k : MapTypes K V S) (is_default : S → Type 0) (keys
         (PlacesBlock old new (h.table.slots * slot_size k.keys.SIZE k.values.SIZE) (table_align k.keys.ALIGN k.values.ALIGN))
         → bytes_of source h.table.block ≡ bytes_of new.memory b
         → Copies (map_of k is_default keys values) ids source old new h (Ok (in_block h b s))
-    table_copied b s default placed same =
-        let made = placed.1.outcome.of_layout in
-        record {
-          blocks = b ∷ [];
-          placed = subst (λ asks. PlacesAll asks old new (b ∷ []) None) (sym asks_one)
-              (table_asked k old new (λ b. b) (Ok b) h.table.slots h.len some new_table placed);
-          made = block_made source new.memory h b s same full default is
-              (record { readable = made.readable; of_size = made.of_size; of_align = made.of_align });
-        }
+    table_copied b s default placed same = grind (arith, nat_tests, asks_one, table_asked, some, new_table, block_made)

@@ -1,5 +1,6 @@
 -- Copies of what is in a block of its own: the block is placed, and then the values are copied into it.
-use Rattle.std.proofs.Common.{◌≡◌, ℕ, List, [], ◌∷◌, Some, None, Ok, Err, IsTrue, subst, sym}
+use Rattle.std.proofs.lemmas.Bool.Decides.{nat_tests}
+use Rattle.std.proofs.Common.{arith, ◌≡◌, ℕ, List, [], ◌∷◌, Some, None, Ok, Err, IsTrue, subst, sym}
 use Rattle.std.specs.Prelude.{Result, IsPermutation}
 use Rattle.std.proofs.lemmas.List.Sorted.{IsPermutation-cons}
 use Rattle.arena_chunks.specs.Memory.{Memory, is_readable}
@@ -26,8 +27,7 @@ module _ {V T : Type 0} (item : Ghosts T) (kind : Kind T) (block : V → Block) 
   -- The own block is refused.
   pub own_refused : {new : View} {e : AllocError} → PlacesAll (ask v ∷ []) old new [] (Some e)
       → Copies (row_in item kind block is_in values is_trim ask) ids source old new v (Err e)
-  own_refused placed =
-      record { blocks = []; placed = places_refused ((row_of kind).asks source (values source v)) placed; made = tt }
+  own_refused placed = grind (arith, nat_tests, places_refused)
 
   module _ {X : Type 0} {mid new : View} {target : Block} (own : PlacesAll (ask v ∷ []) old mid (target ∷ []) None) where
     -- The own block is placed, and then those of the values.

@@ -1,6 +1,6 @@
 -- Copies of vectors: storage is made for exactly their values, and then they are copied.
-use Rattle.std.proofs.Common.{◌≡◌, ℕ, ◌*◌, ◌-◌, ◌^◌, ◌<◌, ◌≤◌, ap, sym, refl, subst, ◌∙◌, arith, inl, inr, Some, None, List, [], ◌∷◌, Ok, Err, Bool, true, false}
-use Rattle.std.specs.Prelude.{Result, OnErr, nat_le, ◌&&◌, if◌then◌else◌}
+use Rattle.std.proofs.Common.{◌≡◌, ℕ, ◌*◌, ◌<◌, ◌≤◌, ap, sym, refl, subst, ◌∙◌, arith, Some, None, List, [], ◌∷◌, Ok, Err, Bool, true, false}
+use Rattle.std.specs.Prelude.{Result, OnErr, if◌then◌else◌}
 use Rattle.std.proofs.lemmas.Bool.{cases_eq}
 use Rattle.std.proofs.lemmas.Bool.Decides.{nat_tests}
 use Rattle.arena_chunks.specs.Memory.{Memory}
@@ -32,28 +32,17 @@ use Rattle.arena_clone.proofs.ThroughLemmas.{own_refused, value_refused, values_
 -- what a growth is made of
 grows_by : (is_there can : Bool) (n more : ℕ) → (if is_there then Stays else (if can then GrowsTo n else Overflows)) ≡ GrowsTo more
     → (is_there ≡ false) × (can ≡ true) × (more ≡ n)
-grows_by true can n more is = absurd (cc is)
-grows_by false true n more is = (refl, refl, cc is)
-grows_by false false n more is = absurd (cc is)
+grows_by is_there can n more is = grind (arith, nat_tests)
 
 -- A new vector that grows had no room, and grows to exactly what is required.
 new_grows : (size n more : ℕ) → new_growth size n ≡ GrowsTo more → (empty_capacity size ≡ 0) × (more ≡ n)
 unfolding fits growth_to
-new_grows size n more is =
-    let by = grows_by (nat_le n (empty_capacity size)) (nat_le n (2 ^ 32 - 1) && nat_le (n * size) (2 ^ 32 - 1)) n more is in (
-      elim (cases_eq size 0) [
-        | inl none ↦ absurd (grind (arith, nat_tests, by.0, by.1))
-        | inr some ↦ grind (arith, nat_tests)
-      ],
-      by.2,
-    )
+new_grows size n more is = grind (arith, nat_tests, grows_by, cases_eq)
 
 -- so if its values have bytes it has room for exactly those
 new_trim : (growth : Growth) (cap n c : ℕ) → cap ≡ 0 → ((more : ℕ) → growth ≡ GrowsTo more → more ≡ n)
     → c ≡ capacity_after growth cap → n ≤ c → c ≡ n
-new_trim Stays cap n c none to is enough = omega arith
-new_trim (GrowsTo more) cap n c none to is enough = is ∙ to more refl
-new_trim Overflows cap n c none to is enough = omega arith
+new_trim growth cap n c none to is enough = grind (arith, nat_tests)
 
 -- ---- Storage that is made
 

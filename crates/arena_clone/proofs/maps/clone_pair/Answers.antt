@@ -1,13 +1,12 @@
+use Rattle.std.proofs.lemmas.Bool.Decides.{nat_tests}
+use Rattle.std.proofs.Common.{arith}
 use Rattle.std.proofs.lemmas.Result.{err_from_is_err_and}
 use Rattle.arena_clone.proofs.PairLemmas.{first_refused, second_refused, both_copied}
 use Rattle.arena_clone.proofs.OriginLemmas.{placed_held, placed_copied}
 use Rattle.arena_clone.proofs.maps.clone_pair.Goals as goal
 
 pub returns-in_err-key : goal.returns-in_err-key
-returns-in_err-key g c =
-    let p = err_from_is_err_and c.from_residual.result c.from_residual.ensures.1 in
-    rw (p.1, p.2) (first_refused g.V.CloneIn.kind g.met.K.CloneIn.lawful c.args.ids (g.O.Origin.there c.args.from.now c.args.to.now.memory)
-    c.args.pair.now c.in_err-key.ensures)
+returns-in_err-key g c = grind (arith, nat_tests, err_from_is_err_and, first_refused)
 
 pub copy_of-requires-2-clause-held : goal.copy_of-requires-2-clause-held
 copy_of-requires-2-clause-held g c =

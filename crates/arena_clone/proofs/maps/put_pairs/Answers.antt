@@ -1,3 +1,4 @@
+use Rattle.std.proofs.lemmas.Bool.Decides.{nat_tests}
 use Rattle.std.proofs.Common.{arith}
 use Rattle.std.proofs.lemmas.Result.{err_from_is_err_and}
 use Rattle.arena_clone.proofs.PutLemmas.{puts_none, puts_free, puts_refused, put_map, put_readable, put_apart, puts_no_refusal, puts_more}
@@ -8,8 +9,7 @@ pub loop-slot-init : goal.loop-slot-init
 loop-slot-init g c = puts_none c.requires.empty
 
 pub pair_at-requires-clause-handle : goal.pair_at-requires-clause-handle
-pair_at-requires-clause-handle g c =
-    rw c.arena.ensures (handle_kept (g.met.O.Origin.is_origin c.args.from.now) _ c.loop-slot.invariant c.requires.held c.requires.beside)
+pair_at-requires-clause-handle g c = grind (arith, nat_tests, handle_kept)
 
 pub loop-slot-preserved-in_default : goal.loop-slot-preserved-in_default
 loop-slot-preserved-in_default g c =

@@ -1,3 +1,4 @@
+use Rattle.std.proofs.lemmas.Bool.Decides.{nat_tests}
 use Rattle.std.proofs.Common.{arith, ◌∙◌, sym}
 use Rattle.std.proofs.lemmas.Result.{err_from_is_err_and}
 use Rattle.arena_items.specs.Values.{elements, bytes_of}
@@ -28,11 +29,7 @@ copy_of-requires-clause-held g c =
     (rw c.arena.ensures at (c.item_at-value.ensures c.args.row.count (omega arith)))
 
 pub returns-in_err-copy : goal.returns-in_err-copy
-returns-in_err-copy g c =
-    let p = err_from_is_err_and c.from_residual.result c.from_residual.ensures.1 in
-    rw (p.1, p.2) (row_refused (g.met.O.Origin.is_origin c.args.from.now) g.T.Item g.met.T.CloneIn.lawful c.args.row.source
-    c.args.row.count c.loop-i.i c.loop-i.invariant c.requires.source c.requires.values c.requires.beside
-    (rw c.arena.ensures at (c.item_at-value.ensures c.args.row.count (omega arith))) c.in_err-copy.ensures)
+returns-in_err-copy g c = grind (arith, nat_tests, err_from_is_err_and, row_refused)
 
 pub loop-i-preserved : goal.loop-i-preserved
 loop-i-preserved g c =
@@ -42,8 +39,4 @@ loop-i-preserved g c =
     (rw c.arena.ensures at (c.item_at-value.ensures c.args.row.count (omega arith))) c.in_ok-copy.ensures put.writes put.source put.push
 
 pub returns : goal.returns
-returns g c =
-    let m = g.O.Origin.there c.args.from.now c.args.to.now.memory in
-    let xs = elements g.T.Item.SIZE g.T.Item.decoded c.args.row.count (bytes_of m c.args.row.source) in
-    let long = length-elements g.T.Item.SIZE g.T.Item.decoded c.args.row.count (bytes_of m c.args.row.source) in
-    first_all g.T.Item g.met.T.CloneIn.lawful xs c.loop-i.i c.args.row.count (omega arith) (omega (arith, long)) c.loop-i.invariant
+returns g c = grind (arith, nat_tests, length-elements, first_all)

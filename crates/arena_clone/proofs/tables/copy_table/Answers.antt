@@ -1,15 +1,12 @@
-use Rattle.std.proofs.Common.{sym}
+use Rattle.std.proofs.lemmas.Bool.Decides.{nat_tests}
+use Rattle.std.proofs.Common.{arith, sym}
 use Rattle.std.proofs.lemmas.Result.{err_from_is_err_and}
 use Rattle.arena_clone.proofs.LayoutLemmas.{readable_layout}
 use Rattle.arena_clone.proofs.TableLemmas.{table_is_align, table_copy_refused, table_copied}
 use Rattle.arena_clone.proofs.tables.copy_table.Goals as goal
 
 pub place_copy-requires-clause-fits : goal.place_copy-requires-clause-fits
-place_copy-requires-clause-fits g c =
-    let place = c.requires.held.0.handle.place in
-    let align = table_is_align _ _ _ _ g.met.K.Item.layout g.met.V.Item.layout in
-    rw place.of_align
-    (readable_layout _ c.args.map.now.table.block _ c.known.ensures.valid align (rw c.arena.ensures place.readable))
+place_copy-requires-clause-fits g c = grind (arith, nat_tests, table_is_align, readable_layout)
 
 pub returns-in_err-block : goal.returns-in_err-block
 returns-in_err-block g c =

@@ -1,3 +1,4 @@
+use Rattle.std.proofs.lemmas.Bool.Decides.{nat_tests}
 use Rattle.std.proofs.Common.{arith}
 use Rattle.std.proofs.lemmas.Result.{err_from_is_err_and}
 use Rattle.arena_hash.specs.Contents.{kind}
@@ -7,11 +8,7 @@ use Rattle.arena_clone.proofs.MapLemmas.{table_empty, map_refused, map_pair_refu
 use Rattle.arena_clone.proofs.maps.HashMapCloneIn.copy_of.Goals as goal
 
 pub returns-in_err-empty : goal.returns-in_err-empty
-returns-in_err-empty g c =
-    let p = err_from_is_err_and c.from_residual.result c.from_residual.ensures.1 in
-    rw (p.1, p.2) (map_refused _ g.S.Default.is_default g.K.CloneIn.kind g.V.CloneIn.kind c.args.ids
-    (g.O.Origin.there c.args.from.now c.args.to.now.memory) c.args.self.now (omega (arith, c.requires.held.0.within))
-    c.in_err-empty.ensures.placed)
+returns-in_err-empty g c = grind (arith, nat_tests, err_from_is_err_and, map_refused)
 
 pub put_pairs-requires-clause-held : goal.put_pairs-requires-clause-held
 put_pairs-requires-clause-held g c =

@@ -1,8 +1,7 @@
-use Rattle.std.proofs.Common.{refl, []}
-use Rattle.std.proofs.lemmas.List.Sorted.{IsPermutation-refl}
+use Rattle.std.proofs.lemmas.Bool.Decides.{nat_tests}
+use Rattle.std.proofs.Common.{arith}
 use Rattle.arena_exchange.proofs.Layers.{makes_none}
 use Rattle.arena_clone.proofs.options.OptionCloneIn.copy_of.Goals as goal
 
 pub returns-in-None : goal.returns-in-None
-returns-in-None g c =
-    rw c.in-None.is (makes_none (record { held = tt; means = refl; trim = tt; deep = IsPermutation-refl [] }))
+returns-in-None g c = grind (arith, nat_tests, makes_none)

@@ -1,3 +1,4 @@
+use Rattle.std.proofs.lemmas.Bool.Decides.{nat_tests}
 use Rattle.std.proofs.Common.{arith, refl}
 use Rattle.std.proofs.lemmas.Result.{err_from_is_err_and}
 use Rattle.arena_clone.proofs.LayoutLemmas.{readable_size, readable_layout}
@@ -6,21 +7,13 @@ use Rattle.arena_clone.proofs.ThroughLemmas.{from_kept, row_held, row_beside, ro
 use Rattle.arena_clone.proofs.slices.BoxSliceCloneIn.copy_of.Goals as goal
 
 pub overflow_mul-self : goal.overflow_mul-self
-overflow_mul-self g c =
-    let few = readable_size _ c.args.self.now.block c.known.ensures.valid (rw c.arena.ensures c.requires.held.0.readable) in
-    rw (c.SIZE.ensures) (omega (arith, few, c.requires.held.0.of_size))
+overflow_mul-self g c = grind (arith, nat_tests, readable_size)
 
 pub place-requires : goal.place-requires
-place-requires g c =
-    rw (c.SIZE.ensures, c.ALIGN.ensures, ← c.requires.held.0.of_size)
-    (readable_layout c.arena.result.now.memory.state c.args.self.now.block g.T.Item.ALIGN c.known.ensures.valid
-    g.met.T.Item.layout.is_align (rw c.arena.ensures c.requires.held.0.readable))
+place-requires g c = grind (arith, nat_tests, readable_layout)
 
 pub returns-in_err-target : goal.returns-in_err-target
-returns-in_err-target g c =
-    let p = err_from_is_err_and c.from_residual.result c.from_residual.ensures.1 in
-    rw (p.1, p.2) (slice_refused g.T.Item g.T.CloneIn.kind c.args.ids (g.O.Origin.there c.args.from.now c.args.to.now.memory) c.args.self.now
-    (rw (c.SIZE.ensures, c.ALIGN.ensures) at c.in_err-target.ensures))
+returns-in_err-target g c = grind (arith, nat_tests, err_from_is_err_and, slice_refused)
 
 pub copy_row-requires-clause-source : goal.copy_row-requires-clause-source
 copy_row-requires-clause-source g c =

@@ -1,14 +1,12 @@
-use Rattle.std.proofs.Common.{refl}
+use Rattle.std.proofs.lemmas.Bool.Decides.{nat_tests}
+use Rattle.std.proofs.Common.{arith, refl}
 use Rattle.std.proofs.lemmas.Result.{err_from_is_err_and}
 use Rattle.arena_clone.proofs.ThroughLemmas.{from_kept, row_held, row_beside, row_before}
 use Rattle.arena_clone.proofs.VectorLemmas.{vec_refused, vec_value_refused, vec_made}
 use Rattle.arena_clone.proofs.vectors.VecCloneIn.copy_of.Goals as goal
 
 pub returns-in_err-copy : goal.returns-in_err-copy
-returns-in_err-copy g c =
-    let p = err_from_is_err_and c.from_residual.result c.from_residual.ensures.1 in
-    rw (p.1, p.2) (vec_refused g.T.Item g.T.CloneIn.kind c.args.ids (g.O.Origin.there c.args.from.now c.args.to.now.memory) c.args.self.now
-    c.in_err-copy.ensures)
+returns-in_err-copy g c = grind (arith, nat_tests, err_from_is_err_and, vec_refused)
 
 pub copy_row-requires-clause-source : goal.copy_row-requires-clause-source
 copy_row-requires-clause-source g c =
