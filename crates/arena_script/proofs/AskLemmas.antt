@@ -1,5 +1,6 @@
 -- What was asked for, where it was refused.
-use Rattle.std.proofs.Common.{◌≡◌, ℕ, ◌*◌, refl, sym, ap, ◌∙◌, Err, Some, List, [], ◌∷◌}
+use Rattle.std.proofs.lemmas.Bool.Decides.{nat_tests}
+use Rattle.std.proofs.Common.{arith, ◌≡◌, ℕ, ◌*◌, refl, sym, Err, Some, List, [], ◌∷◌}
 use Rattle.std.proofs.lemmas.Option.{none-some}
 use Rattle.arena_chunks.specs.Source.{View}
 use Rattle.arena_chunks.specs.Answers.{Answer}
@@ -9,12 +10,10 @@ use Rattle.arena_store.specs.declared.block.Block.{Block}
 use Rattle.arena_items.specs.Room.{MakesRoom, RoomAnswer}
 use Rattle.arena_items.specs.Values.{IsHeld}
 use Rattle.arena_items.specs.declared.room.Growth.{Growth}
-use Rattle.arena_items.specs.declared.room.Growth.TheVariants.{Stays, GrowsTo, Overflows}
 use Rattle.arena_items.specs.declared.room.AllocError.{AllocError}
-use Rattle.arena_items.specs.declared.room.AllocError.TheVariants.{CapacityOverflow}
 use Rattle.arena_items.proofs.Layers.{room_refused_as}
 use Rattle.arena_clone.specs.Asks.{Ask, Follows, AsksFor, ask_by}
-use Rattle.arena_clone.specs.Asks.Ask.{Room, Table, NoBytes, Empty, TooMuch}
+use Rattle.arena_clone.specs.Asks.Ask.{Room}
 use Rattle.arena_script.proofs.CostFacts.{IsPaid, still, refusal, unchanged}
 
 same_view : (a b : View) → a.memory ≡ b.memory → a.source ≡ b.source → a ≡ b
@@ -24,15 +23,7 @@ same_view a b m s = λ i. record { memory = m i; source = s i }
 
 asked_first : {X : Type 0} (old between new : View) (size align : ℕ) (f : X → Block) (e : AllocError) → new ≡ between
     → RoomAnswer f (Err e) (PlacesBlock old between size align) → AsksFor (Room size align ∷ []) old new [] (Some e)
-asked_first old between new size align f CapacityOverflow same places = absurd places
-asked_first old between new size align f e same places = record {
-  start = old;
-  between = between;
-  answer = refusal e;
-  written = still old;
-  places = places;
-  then = (refl, refl, same);
-}
+asked_first old between new size align f e same places = grind (arith, nat_tests, refusal, still)
 
 pub block_asked : {X : Type 0} (old new : View) (size align : ℕ) (f : X → Block) (e : AllocError)
     → RoomAnswer f (Err e) (PlacesBlock old new size align) → AsksFor (Room size align ∷ []) old new [] (Some e)
@@ -44,29 +35,12 @@ module _ {X : Type 0} (old new : View) (block : Block) (size align : ℕ) (f : X
   pub growth_asked : (cap cost before after : ℕ) (growth : Growth) (e : AllocError) → old.memory.state.min_align ≡ 1
       → IsHeld (cap * size) align old.memory.state block → IsPaid size align cap growth cost before after
       → MakesRoom size align old new block cap growth f (Err e) → AsksFor (ask_by size align growth ∷ []) old new [] (Some e)
-  growth_asked cap cost before after Stays e one held paid made = absurd made.0
-  growth_asked cap cost before after (GrowsTo more) e one held (greater, layout, bounded, paid) made =
-      block_asked old new (more * size) align f e (room_refused_as old new block size align cap f more one held layout e kept made)
-  growth_asked cap cost before after Overflows e one held paid made = absurd paid
+  growth_asked cap cost before after growth e one held paid made = grind (arith, nat_tests, room_refused_as)
 
   -- where no block is given back for it
   pub first_asked : (growth : Growth) (e : AllocError) → MakesRoom size align old new block 0 growth f (Err e)
       → AsksFor (ask_by size align growth ∷ []) old new [] (Some e)
-  first_asked Stays e made = absurd made.0
-  first_asked (GrowsTo more) CapacityOverflow made = absurd made.took
-  first_asked (GrowsTo more) e made =
-      let places = made.took.placed refl in
-      asked_first old made.between new (more * size) align f e
-      (same_view new made.between (kept ∙ sym (unchanged old made.between (more * size) align f e places)) made.places.source) places
-  first_asked Overflows e made = (
-    (let is = made.0 in cc),
-    refl,
-    record {
-      state = ap (λ (v : View). v.memory.state) made.1;
-      statistics = ap (λ (v : View). v.memory.statistics) made.1;
-      source = ap (λ (v : View). v.source) made.1;
-    },
-  )
+  first_asked growth e made = grind (arith, nat_tests, asked_first, same_view, unchanged)
 
 -- ---- A request of any kind: where it is refused, it leaves no block
 
@@ -89,8 +63,4 @@ module _ (old new : View) (blocks : List Block) (e : AllocError) where
       }
 
   pub alone : (ask : Ask) → AsksFor (ask ∷ []) old new blocks (Some e) → AsksFor (ask ∷ []) old new [] (Some e)
-  alone (Room size align) takes = room_alone size align takes
-  alone (Table pairs slot align) (slots, are, takes) = (slots, are, room_alone (slots * slot) align takes)
-  alone NoBytes (b, rest, empty, is, (last, empties, same)) = absurd (none-some e (sym last))
-  alone (Empty align) (rest, is, (last, empties, same)) = absurd (none-some e (sym last))
-  alone TooMuch (is, none, same) = (is, refl, same)
+  alone ask takes = grind (arith, nat_tests, room_alone, none-some)

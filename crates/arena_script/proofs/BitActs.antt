@@ -57,13 +57,7 @@ module _ {things : Things} {old new : View} {name : ℕ} {s : BitSet} (h : Holds
   becomes : {set : Set} {all : Bits} {command : Command} → bits_below (end h) set ≡ all
       → effect command (seen old.memory things) ≡ Gives name (ASet s.capacity all) Done 0 → BecomesSet old new s set
       → GivesThing command things old new name (thing.Bits s) Done
-  becomes same given is = exchanged h (rw (is.set_is, same) given) (record {
-    held = record { held = is.held; small = h.held.small };
-    room = refl;
-    least = omega (arith, same_used old new is.places);
-    costs = nothing_given 0 _ 0 old new is.places (omega arith);
-    frame = is.frame;
-  })
+  becomes same given is = grind (arith, nat_tests, exchanged, same_used, nothing_given)
 
   pub set_gives : (bit : ℕ) → bit < 64 * s.words.length → BecomesSet old new s (with_bit (here h) bit)
       → GivesThing (SetBit name bit) things old new name (thing.Bits s) Done
@@ -179,7 +173,4 @@ ones_told {things} {m} {name} {s} h =
 
 pub printed_same : (m : Memory) (s : BitSet) → IsSetIn m s → below (64 * s.words.length) (set_of m s) ≡ set_of m s
     → printed s.words.length (set_of m s) ≡ printed (words_for s.capacity) (has (bits_below (bits_end s.capacity) (set_of m s)))
-printed_same m s held all =
-    ap (λ (set : Set). printed s.words.length set)
-    (sym all ∙ ap (λ n. below (64 * n) (set_of m s)) held.count ∙ sym (fun_ext (has_below (bits_end s.capacity) (set_of m s))))
-    ∙ ap (λ n. printed n (has (bits_below (bits_end s.capacity) (set_of m s)))) held.count
+printed_same m s held all = grind (arith, nat_tests, fun_ext, has_below)

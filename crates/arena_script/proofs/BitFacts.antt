@@ -1,6 +1,6 @@
 -- Sets of numbers as bits.
-use Rattle.std.proofs.Common.{◌≡◌, ℕ, ◌<◌, ◌≤◌, min, refl, sym, ap, ◌∙◌, arith, Bool, true, false, not, ◌&&◌, ◌||◌, is_some, Option, Some, None, [], IsTrue, inl, inr}
-use Rattle.std.specs.Prelude.{◌==◌, nat_lt, if◌then◌else◌}
+use Rattle.std.proofs.Common.{◌≡◌, ℕ, ◌<◌, ◌≤◌, min, refl, ap, ◌∙◌, arith, Bool, false, not, ◌&&◌, ◌||◌, is_some, Option, Some, None, [], IsTrue}
+use Rattle.std.specs.Prelude.{nat_lt, if◌then◌else◌}
 use Rattle.std.proofs.lemmas.Bool.{cases_lt}
 use Rattle.std.proofs.lemmas.Bool.Decides.{nat_tests}
 use Rattle.arena_rules.specs.Bits.{Set, nothing, with_bit, without_bit, joined, below}
@@ -14,13 +14,11 @@ abbrev mark : Bool → Option (Unit {0})
 mark b = if b then Some tt else None
 
 some_mark : (b : Bool) → is_some (mark b) ≡ b
-some_mark true = refl
-some_mark false = refl
+some_mark b = grind (arith, nat_tests)
 
 -- an entry of a bit has just one possible value
 marked : (o : Option (Unit {0})) → o ≡ mark (is_some o)
-marked None = refl
-marked (Some u) = refl
+marked o = grind (arith, nat_tests)
 
 module _ (end : ℕ) (set : Set) where
   pub rising : IsTrue (are_rising (bits_below end set))
@@ -34,28 +32,21 @@ module _ (end : ℕ) (set : Set) where
 
   -- which bits there are
   pub has_below : (q : ℕ) → has (bits_below end set) q ≡ below end set q
-  has_below q = elim (cases_lt q end) [
-    | inl low ↦ (let t : nat_lt q end ≡ true = grind (arith, nat_tests) in
-        ap is_some (get_bit q low) ∙ some_mark (set q) ∙ sym (ap (λ b. b && set q) t))
-    | inr high ↦ (let t : nat_lt q end ≡ false = grind (arith, nat_tests) in ap is_some (no_bit q high) ∙ sym (ap (λ b. b && set q) t))
-  ]
+  has_below q = grind (arith, nat_tests, cases_lt, is_some, get_bit, some_mark, no_bit)
 
   with_mark : (s t : Bool) → (if t then Some tt else mark s) ≡ mark (s || t)
-  with_mark true true = refl
-  with_mark _ _ = refl
+  with_mark s t = grind (arith, nat_tests)
 
   -- A bit more, in both.
   pub bits_with : (bit : ℕ) → bit < end → bits_below end (with_bit set bit) ≡ bind (bits_below end set) bit tt
-  bits_with bit inside = entries_with (λ n. mark (set n)) (λ n. mark (with_bit set bit n)) end bit tt inside
-      (λ q low. sym (with_mark (set q) (q == bit)))
+  bits_with bit inside = grind (arith, nat_tests, entries_with, with_mark)
 
   without_mark : (s t : Bool) → (if t then None else mark s) ≡ mark (s && not t)
   without_mark s t = grind (arith, nat_tests)
 
   -- A bit less, in both.
   pub bits_without : (bit : ℕ) → bits_below end (without_bit set bit) ≡ unbind (bits_below end set) bit
-  bits_without bit = entries_without (λ n. mark (set n)) (λ n. mark (without_bit set bit n)) end bit
-      (λ q low. sym (without_mark (set q) (q == bit)))
+  bits_without bit = grind (arith, nat_tests, entries_without, without_mark)
 
 -- Those of two sets, in both.
 module _ (end other_end : ℕ) (set other : Set) where
@@ -73,12 +64,7 @@ module _ (end other_end : ℕ) (set other : Set) where
       ∙ (λ i. has_below end set q i || (nat_lt q limit && has_below other_end other q i))
 
   alike : (q : ℕ) → q < end → (below end set q || (nat_lt q limit && below other_end other q)) ≡ both q
-  alike q low =
-      let t : nat_lt q end ≡ true = grind (arith, nat_tests) in
-      elim (cases_lt q other_end) [
-        | inl under ↦ (let u : nat_lt q other_end ≡ true = grind (arith, nat_tests) in rw (t, u) refl)
-        | inr over ↦ (let u : nat_lt q limit ≡ false = grind (arith, nat_tests) in rw (t, u) refl)
-      ]
+  alike q low = grind (arith, nat_tests, cases_lt)
 
   within : (q : ℕ) → q < end → get all q ≡ mark (both q)
   within q low = marked (get all q) ∙ ap mark (told q ∙ alike q low)

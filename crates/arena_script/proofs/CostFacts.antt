@@ -1,5 +1,6 @@
 -- What calls of a command cost: one block, or none.
-use Rattle.std.proofs.Common.{◌≡◌, ◌≢◌, ℕ, ◌+◌, ◌-◌, ◌*◌, ◌^◌, ◌≤◌, refl, ap, ◌∙◌, sym, subst, arith, IsTrue, Result, Ok, Err, inl}
+use Rattle.std.proofs.lemmas.Bool.Decides.{nat_tests}
+use Rattle.std.proofs.Common.{◌≡◌, ◌≢◌, ℕ, ◌+◌, ◌-◌, ◌*◌, ◌^◌, ◌≤◌, refl, ap, ◌∙◌, subst, arith, IsTrue, Result, Ok, Err}
 use Rattle.std.specs.Prelude.{IsErrAnd}
 use Rattle.arena_rules.specs.Rounding.{is_layout}
 use Rattle.arena_rules.specs.State.{State, used_bytes}
@@ -40,20 +41,12 @@ nothing_given cost before after old new same le = costs_nothing far cost before 
 -- An unrelated credit stays, and some of the credit afterwards may be dropped.
 pub costs_beside : {X : Type 0} (near cost before after more later rest : ℕ) (old new : View) (result : Result X AllocError)
     → before + rest ≡ more → later ≤ after + rest → Costs near cost before after old new result → Costs near cost more later old new result
-costs_beside near cost before after more later rest old new result sum less costs =
-    let asks = asks_more (used old + (cost + before)) (used old + (cost + more)) old.memory.state new.memory.state old.source new.source
-    (omega (arith, sum)) costs.asks in
-    grind (arith, asks, costs, sum, less)
+costs_beside near cost before after more later rest old new result sum less costs = grind (arith, nat_tests, asks_more)
 
 -- Writes before it moved no cursor.
 pub costs_from : {X : Type 0} (near cost before after : ℕ) (old start new : View) (result : Result X AllocError) → SamePlaces old start
     → Costs near cost before after start new result → Costs near cost before after old new result
-costs_from near cost before after old start new result written costs =
-    let equal = same_used old start written in
-    let asks = asks_then (used old + (cost + before)) old.memory.state start.memory.state new.memory.state old.source start.source new.source
-    (asks_same _ old start written.state written.source)
-    (asks_more _ _ start.memory.state new.memory.state start.source new.source (omega (arith, equal)) costs.asks) in
-    grind (arith, equal, asks, written, costs)
+costs_from near cost before after old start new result written costs = grind (arith, nat_tests, same_used, asks_then, asks_same, asks_more)
 
 -- ---- A call that is refused
 
@@ -67,8 +60,7 @@ pub record IsRefused (cost before : ℕ) (old new : View) (e : AllocError) : Typ
 -- A refusal is passed on.
 pub not_given : {command : Command} {things : Things} {old new : View} {e : AllocError} (result : Result Act AllocError)
     → IsErrAnd result (λ x. x ≡ e) → GivesNothing command things old new e → Acts command things old new result
-not_given (Ok act) is gives = absurd is
-not_given {command} {things} {old} {new} (Err x) is gives = inl (subst (λ y. GivesNothing command things old new y) (sym is) gives)
+not_given result is gives = grind (arith, nat_tests)
 
 -- the answer of a call that is refused with this error, and what it leaves
 abbrev pub refusal : AllocError → Answer
@@ -77,9 +69,7 @@ refusal e = Exhausted
 
 pub unchanged : {X : Type 0} (old new : View) (size align : ℕ) (f : X → Block) (e : AllocError)
     → RoomAnswer f (Err e) (PlacesBlock old new size align) → new.memory ≡ old.memory
-unchanged old new size align f (AllocErr k) places = places.1.outcome.1.memory
-unchanged old new size align f OutOfMemory places = ap (λ (v : View). v.memory) places.1.outcome.same
-unchanged old new size align f CapacityOverflow places = absurd places
+unchanged old new size align f e places = grind (arith, nat_tests)
 
 -- ---- Room by a growth
 
@@ -95,10 +85,7 @@ module _ {X : Type 0} (old new : View) (block : Block) (size align cap : ℕ) (f
   pub grown_least : (growth : Growth) (x : X) → IsPaid size align cap growth cost before after
       → (f x).size ≡ capacity_after growth cap * size → MakesRoom size align old new block cap growth f (Ok x)
       → used old + (f x).size ≤ used new + block.size
-  grown_least Stays x paid sized made = rw made.0 (omega (arith, same_used old new made.1))
-  grown_least (GrowsTo more) x (greater, layout, bounded, paid) sized made =
-      omega (arith, (room_brings old new block size align cap f more one held layout x greater made).least, sized)
-  grown_least Overflows x paid sized made = absurd paid
+  grown_least growth x paid sized made = grind (arith, nat_tests, same_used, room_brings)
 
   pub grown_costs : (growth : Growth) (x : X) → IsPaid size align cap growth cost before after
       → MakesRoom size align old new block cap growth f (Ok x) → CostsGiven cost before after old new
@@ -171,10 +158,7 @@ module _ (old between new : View) (size align : ℕ) (cost before after : ℕ) (
   whole = omega arith
 
   taken : (answer : Answer) → PlacesBlock old between size align answer → TakesRoom old between nowhere 0 (1 * size) align answer
-  taken answer places = record {
-    placed = λ none. subst (λ n. PlacesBlock old between n align answer) whole places;
-    grown = λ some. absurd (omega (arith, some));
-  }
+  taken answer places = grind (arith, nat_tests, whole)
 
   one_paid : IsPaid size align 0 (GrowsTo 1) cost before after
   one_paid = (omega arith, subst (λ n. IsTrue (is_layout n align)) whole layout, omega (arith, bounded), omega (arith, paid))

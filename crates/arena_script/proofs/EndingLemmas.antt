@@ -1,6 +1,7 @@
 -- How a run ends.
-use Rattle.std.proofs.Common.{◌≡◌, ℕ, ◌+◌, ◌*◌, ◌≤◌, ◌<◌, refl, sym, ap, ◌∙◌, subst, arith, Bool, true, false, Some, Err, get_or, add-one, List, [], ◌∷◌, ◌++◌, length, take, length-take, slice_get, IsTrue}
-use Rattle.std.specs.Prelude.{if◌then◌else◌, IsSomeAnd, ◌≢◌}
+use Rattle.std.proofs.lemmas.Bool.Decides.{nat_tests}
+use Rattle.std.proofs.Common.{◌≡◌, ℕ, ◌+◌, ◌*◌, ◌≤◌, ◌<◌, refl, sym, ap, ◌∙◌, arith, Bool, true, false, Some, Err, get_or, add-one, List, [], ◌∷◌, ◌++◌, length, take, length-take, slice_get}
+use Rattle.std.specs.Prelude.{if◌then◌else◌, ◌≢◌}
 use Rattle.std.proofs.Math.Seq.{take-length, take-suc}
 use Rattle.std.proofs.lemmas.Option.{slice_get-get_or}
 use Rattle.arena_rules.proofs.AskingLemmas.{asks_more}
@@ -11,7 +12,6 @@ use Rattle.arena_chunks.proofs.Layers.{asks_same}
 use Rattle.arena_hash.specs.Maps.{IsMapIn}
 use Rattle.arena_hash.specs.declared.map.HashMap.{HashMap}
 use Rattle.hash_ring.specs.declared.hasher.FxHasher.{FxHasher}
-use Rattle.arena_clone.specs.Asks.{AsksFor}
 use Rattle.arena_items.specs.declared.room.AllocError.{AllocError}
 use Rattle.arena_items.specs.declared.room.AllocError.TheVariants.{AllocErr}
 use Rattle.script_rules.specs.Objects.{need}
@@ -25,10 +25,8 @@ use Rattle.script_rules.specs.declared.outcome.Outcome.{Outcome}
 use Rattle.script_rules.proofs.RunLemmas.{first_cost, first_replies, reply_count, cost_rises}
 use Rattle.arena_script.specs.Kinds.{pairs}
 use Rattle.arena_script.specs.Things.{Things}
-use Rattle.arena_script.specs.Asks.{asks}
 use Rattle.arena_script.specs.Acts.{used, HasNoPlace}
 use Rattle.arena_script.specs.Serves.{IsAfter, Stops}
-use Rattle.arena_script.specs.Wants.{takes_memory}
 use Rattle.arena_script.specs.Running.{HoldsObjects, IsRun, IsDenied, IsStoppedAt, cost_with_next}
 use Rattle.arena_script.proofs.RunningLemmas.{cost_more, stopped_costs, stopped_kind}
 use Rattle.arena_script.proofs.ServeLemmas.{no_place_within}
@@ -45,11 +43,7 @@ pub record IsAt (script : List Command) (i : ℕ) (c : Command) : Type 0 where
   pub more : take (i + 1) script ≡ take i script ++ c ∷ []
 
 pub is_at : (script : List Command) (i : ℕ) (c : Command) → i < length script → c ≡ get_or script i c → IsAt script i c
-is_at script i c inside same = record {
-  inside = inside;
-  is = slice_get-get_or script i c inside ∙ ap Some (sym same);
-  more = rw add-one (take-suc script i c inside ∙ ap (λ x. take i script ++ x ∷ []) (sym same));
-}
+is_at script i c inside same = grind (arith, nat_tests, slice_get-get_or, add-one, take-suc)
 
 -- a map's block has the bytes of its pairs
 abbrev pub HavePairs : Type 0
@@ -69,13 +63,7 @@ module _ (script : List Command) (start : View) {replies : List ScriptReply} {i 
   -- what the objects so far need is in use
   needs : HavePairs → {now : View} {things : Things} → IsAfter script start now things i
       → need (run (take (length replies) script)).objects ≤ used now
-  needs maps {now} {things} after = omega (
-    arith,
-    ap (λ n. need (run (take n script)).objects) counted,
-    ap need after.objects,
-    needed maps now.memory things after.are,
-    after.least,
-  )
+  needs maps {now} {things} after = grind (arith, nat_tests, counted, needed)
 
   -- ---- Every command was served.
 
@@ -110,8 +98,7 @@ module _ (script : List Command) (start : View) {replies : List ScriptReply} {i 
       (after : IsAfter script start now things i) {e : AllocError} (stops : Stops c now next things e) {bytes : ℕ}
       (is : bytes ≡ used next) where
     stopped_at : (ended : Ended) → IsStoppedAt script (came replies ended bytes)
-    stopped_at ended = subst (λ n. IsSomeAnd (slice_get script n) (λ c. IsTrue (takes_memory c))) (sym counted)
-        (subst (λ o. IsSomeAnd o (λ c. IsTrue (takes_memory c))) (sym at.is) stops.taken)
+    stopped_at ended = grind (arith, nat_tests, slice_get, counted)
 
     asks_for : (ended : Ended) → AsksWithin (used start + cost_with_next script (came replies ended bytes)) start next
     asks_for ended = asks_more _ _ start.memory.state next.memory.state start.source next.source
@@ -151,17 +138,7 @@ module _ (script : List Command) (start : View) {replies : List ScriptReply} {i 
         (λ other. absurd (other refl))
 
     refused_then : (k : ℕ) → e ≡ AllocErr k → (ended : Ended) → IsDenied script (came replies ended bytes) start next
-    refused_then k refused ended = record {
-      before = now;
-      things = things;
-      after = subst (λ n. IsAfter script start now things n) (sym counted) after;
-      asked = subst (λ n. IsSomeAnd (slice_get script n) Refuses) (sym counted)
-          (subst (λ o. IsSomeAnd o Refuses) (sym at.is)
-          (k, subst (λ x. AsksFor (asks c now.memory things ∷ []) now next [] (Some x)) refused (stops.asked k refused)));
-    }
-      where
-        Refuses : Command → Type 0
-        Refuses d = (j : ℕ) × AsksFor (asks d now.memory things ∷ []) now next [] (Some (AllocErr j))
+    refused_then k refused ended = grind (arith, nat_tests, counted, slice_get)
 
     no_place : (k : ℕ) → e ≡ AllocErr k → (ended : Ended) → HasNoPlace (cost_with_next script (came replies ended bytes)) next
     no_place k refused ended = no_place_within
@@ -186,8 +163,4 @@ module _ (script : List Command) (start : View) {replies : List ScriptReply} {i 
 pub run_unbegun : (script : List Command) (start : View) → used start ≡ 0 → (bytes : ℕ) → bytes ≡ used start
     → IsRun script start start (came [] OutOfMemory bytes)
 unfolding run_from
-run_unbegun script start unused bytes is =
-    let costs = cost_with_next script (came [] OutOfMemory bytes) in
-    let asks = asks_same (used start + costs) start start refl refl in
-    let none : need (run (take 0 script)).objects ≡ 0 = refl in
-    grind (arith, asks, none, is, unused)
+run_unbegun script start unused bytes is = grind (arith, nat_tests, asks_same)

@@ -22,8 +22,7 @@ later x y l = grind (arith, nat_tests)
 -- a look-up of another key skips an entry
 passed : {X : Type 0} (o : Option X) (k q : ℕ) (rest : Entries X) → eq_by_cmp nat_cmp q k ≡ false
     → get (entry_then k o rest) q ≡ get rest q
-passed None k q rest other = refl
-passed (Some x) k q rest other = ap (λ b. cond b (Some x) (get rest q)) other
+passed o k q rest other = grind (arith, nat_tests, cond)
 
 module _ {X : Type 0} (f : ℕ → Option X) where
   -- below the first key there is none

@@ -1,5 +1,6 @@
 -- How a command gives a name a thing, and what it leaves where it doesn't.
-use Rattle.std.proofs.Common.{◌≡◌, ℕ, ◌+◌, ◌≤◌, sym, ◌∙◌, IsTrue, Option, Some, None, [], ◌∷◌}
+use Rattle.std.proofs.lemmas.Bool.Decides.{nat_tests}
+use Rattle.std.proofs.Common.{arith, ◌≡◌, ℕ, ◌+◌, ◌≤◌, IsTrue, Option, Some, None, [], ◌∷◌}
 use Rattle.std.specs.Option.{option_map}
 use Rattle.arena_chunks.specs.Frame.{Frame}
 use Rattle.arena_chunks.specs.Source.{View}
@@ -30,16 +31,7 @@ module _ {command : Command} {things : Things} {old new : View} {name cost : ℕ
   given : {o : Option Thing} {w : Thing} → get things name ≡ o → (o ≡ None → IsTrue (takes_room command))
       → effect command (seen old.memory things) ≡ Gives name (object_in new.memory w) reply cost → IsGiven cost old new o w
       → GivesThing command things old new name w reply
-  given at taken effect_is is = record {
-    cost = cost;
-    effect_is = effect_is;
-    taken = λ none. taken (sym at ∙ none);
-    held = is.held;
-    room = rw at is.room;
-    least = rw at is.least;
-    costs = rw at is.costs;
-    frame = rw at is.frame;
-  }
+  given at taken effect_is is = grind (arith, nat_tests)
 
   -- a name that holds a thing, and one that holds none
   pub exchanged : {t w : Thing} → Holds things old.memory name t
@@ -57,16 +49,4 @@ module _ {command : Command} {things : Things} {old new : View} {name cost : ℕ
       → effect command (seen old.memory things) ≡ Gives name object reply cost
       → AsksFor (asks command old.memory things ∷ []) old new [] (Some e) → IsRefused cost (credit_held o) old new e
       → GivesNothing command things old new e
-  kept {o} {object} at taken effect_is asked refused = record {
-    name = name;
-    object = object;
-    reply = reply;
-    cost = cost;
-    effect_is = effect_is;
-    taken = taken;
-    fits = refused.fits;
-    costs = rw at refused.costs;
-    asked = asked;
-    denied = rw at refused.denied;
-    same = refused.same;
-  }
+  kept {o} {object} at taken effect_is asked refused = grind (arith, nat_tests)

@@ -1,6 +1,6 @@
 -- What commands on lists do.
 use Rattle.std.proofs.Common.{◌≡◌, refl, ap, ◌∙◌, IsTrue, ℕ, ◌+◌, ◌-◌, ◌*◌, ◌<◌, ◌≤◌, arith, false, Ok, Err, Option, Some, List, [], ◌∷◌, ◌++◌, length, take, set, length-append, length-take, length-set, slice_get}
-use Rattle.std.specs.Prelude.{nat_lt, nat_le}
+use Rattle.std.specs.Prelude.{nat_lt}
 use Rattle.std.specs.List.{insert, remove}
 use Rattle.std.proofs.lemmas.Bool.Decides.{nat_tests}
 use Rattle.std.proofs.lemmas.Option.{slice_get-get_or}
@@ -56,24 +56,11 @@ module _ {things : Things} {m : Memory} {name : ℕ} {v : Vec ℕ} (h : Holds th
 
   pub push_grows : (value : ℕ) → v.raw.len < most_items → GrowsTo (Push name value) (items ++ value ∷ [])
   unfolding effect
-  push_grows value less = record {
-    taken = refl;
-    asks_is = refl;
-    few = less;
-    longer = omega (arith, counted, length-append items (value ∷ []));
-    given = let test : nat_le most_items (length items) ≡ false = grind (arith, nat_tests, counted) in rw (h.found, test) refl;
-  }
+  push_grows value less = grind (arith, nat_tests, counted, length-append)
 
   pub insert_grows : (at value : ℕ) → at ≤ v.raw.len → v.raw.len < most_items → GrowsTo (Insert name at value) (insert items at value)
   unfolding effect
-  insert_grows at value inside less = record {
-    taken = refl;
-    asks_is = refl;
-    few = less;
-    longer = omega (arith, counted, length-insert items at value (omega (arith, counted)));
-    given = let test : nat_le most_items (length items) ≡ false = grind (arith, nat_tests, counted) in
-        rw (h.found, inside_told at inside, test) refl;
-  }
+  insert_grows at value inside less = grind (arith, nat_tests, counted, length-insert, inside_told)
 
 -- What the arena does then.
 module _ (rule : GrowthRule) (paid : Paid) (old new : View) (w : Vec ℕ) {things : Things} {name : ℕ} {v : Vec ℕ}
@@ -114,13 +101,7 @@ module _ {things : Things} {old new : View} {name : ℕ} {v w : Vec ℕ} (h : Ho
   becomes : {list : List ℕ} {command : Command} {reply : ScriptReply} → length list ≤ v.raw.len
       → effect command (seen old.memory things) ≡ Gives name (AList list) reply 0 → Becomes short old new v list w
       → GivesThing command things old new name (thing.List w) reply
-  becomes fewer given is = exchanged h (rw is.list_is given) (record {
-    held = is.held;
-    room = refl;
-    least = rw is.block (omega (arith, same_used old new is.places));
-    costs = nothing_given 0 (credit_of (thing.List v)) (credit_of (thing.List w)) old new is.places (omega (arith, is.cap, is.len, fewer));
-    frame = is.frame;
-  })
+  becomes fewer given is = grind (arith, nat_tests, exchanged, same_used, nothing_given)
 
   pub pop_gives : {last : Option ℕ} → slice_get (items h) (v.raw.len - 1) ≡ last
       → Becomes short old new v (take (v.raw.len - 1) (items h)) w
@@ -131,8 +112,7 @@ module _ {things : Things} {old new : View} {name : ℕ} {v w : Vec ℕ} (h : Ho
   pub remove_gives : (at : ℕ) {number : ℕ} → at < v.raw.len → slice_get (items h) at ≡ Some number
       → Becomes short old new v (remove (items h) at) w → GivesThing (Remove name at) things old new name (thing.List w) (Number number)
   unfolding effect
-  remove_gives at inside is =
-      becomes (omega (arith, counted h, length-remove (items h) at (omega (arith, counted h)))) (rw (h.found, is) refl)
+  remove_gives at inside is = grind (arith, nat_tests, becomes, counted, length-remove)
 
   pub put_gives : (at value : ℕ) → at < v.raw.len → Becomes short old new v (set (items h) at value) w
       → GivesThing (Put name at value) things old new name (thing.List w) Done

@@ -3,7 +3,7 @@ use Rattle.std.proofs.Common.{◌≡◌, ℕ, ◌+◌, ◌-◌, ◌^◌, ◌<◌
 use Rattle.std.specs.Prelude.{nat_le, nat_lt, if◌then◌else◌}
 use Rattle.std.proofs.lemmas.Bool.{cases_lt, false≢true}
 use Rattle.std.proofs.lemmas.Bool.Decides.{nat_tests}
-use Rattle.arena_rules.specs.Rounding.{up, is_layout, is_power_among}
+use Rattle.arena_rules.specs.Rounding.{is_layout, is_power_among}
 use Rattle.arena_rules.proofs.RoundingLemmas.{up_close}
 use Rattle.arena_chunks.specs.Memory.{Memory}
 use Rattle.arena_chunks.specs.Source.{View}
@@ -121,10 +121,7 @@ unbind_gives {things} {old} {new} {name} {h} {w} {key} {old_value} holds small o
 -- the layout of a table of `size` bytes
 pub slots_layout : (size : ℕ) → size ≤ 2 ^ 62 → IsTrue (is_layout size 8)
 unfolding is_power_among
-slots_layout size bounded =
-    let near = up_close size 8 (omega arith) in
-    let fits : nat_le (up size 8) (2 ^ 63 - 1) ≡ true = grind (arith, nat_tests) in
-    rw fits refl
+slots_layout size bounded = grind (arith, nat_tests, up_close)
 
 -- ---- A pair more
 

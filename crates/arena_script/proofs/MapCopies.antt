@@ -1,5 +1,6 @@
 -- What copies of maps do.
-use Rattle.std.proofs.Common.{IsPermutation, ◌≡◌, ℕ, zero, suc, ◌+◌, ◌-◌, ◌*◌, ◌^◌, ◌<◌, ◌≤◌, refl, sym, ap, ◌∙◌, subst, arith, is_some, Ok, Err, Option, Some, None, Result, List, [], ◌∷◌, length}
+use Rattle.std.proofs.lemmas.Bool.Decides.{nat_tests}
+use Rattle.std.proofs.Common.{IsPermutation, ◌≡◌, ℕ, zero, suc, ◌+◌, ◌-◌, ◌*◌, ◌^◌, ◌<◌, ◌≤◌, refl, sym, ap, ◌∙◌, subst, arith, is_some, Ok, Err, Option, Some, None, Result, List, [], ◌∷◌}
 use Rattle.std.proofs.Math.Path.{fun_ext}
 use Rattle.arena_chunks.specs.Memory.{Memory}
 use Rattle.arena_chunks.specs.Source.{View}
@@ -18,7 +19,7 @@ use Rattle.arena_clone.specs.FlatLaws.{none_in_all}
 use Rattle.arena_clone.specs.Kinds.{Kind, plain, row_of, of_some}
 use Rattle.arena_clone.specs.MapKind.{map_of, pair_of, table_ask}
 use Rattle.arena_exchange.specs.declared.ids.CloneInSemanticIds.TheVariants.{With}
-use Rattle.script_rules.specs.Objects.{Entries, get, AMap}
+use Rattle.script_rules.specs.Objects.{get, AMap}
 use Rattle.script_rules.specs.declared.commands.Command.TheVariants.{CopyTo}
 use Rattle.script_rules.specs.declared.commands.ScriptReply.TheVariants.{Done}
 use Rattle.arena_script.specs.Kinds.{pairs}
@@ -49,12 +50,10 @@ pub map_ready : (m : Memory) (h : Map) → IsMapIn pairs m h → map_kind.is_hel
 map_ready m h held = (held, plain_all m (pairs_in pairs m h))
 
 some_same : (o : Option ℕ) → of_some (λ (v : ℕ). v) o ≡ o
-some_same None = refl
-some_same (Some v) = refl
+some_same o = grind (arith, nat_tests)
 
 value_is : (o : Option (ℕ × ℕ)) → of_some (λ (p : ℕ × ℕ). p.1) o ≡ value_of o
-value_is None = refl
-value_is (Some p) = refl
+value_is o = grind (arith, nat_tests)
 
 -- what a new table for n pairs takes
 abbrev IsTableBound : Type 0
@@ -99,10 +98,7 @@ module _ (old new : View) (other : ℕ) {things : Things} {name : ℕ} {h : Map}
     same_len = lengths new.memory old.memory copy h copies.made.held.0 holds.held.held same_has
 
     map_held : IsPairsIn new.memory copy
-    map_held = record {
-      held = copies.made.held.0;
-      count = same_len ∙ holds.held.count ∙ sym (ap (λ (es : Entries ℕ). length es) same_pairs);
-    }
+    map_held = grind (arith, nat_tests, same_len, same_pairs)
 
     -- Its block is the one that was placed.
     own : (b : Block) → copies.blocks ≡ b ∷ [] → copy.table.block ≡ b

@@ -7,18 +7,16 @@ use Rattle.std.specs.FinMap.{is_sorted}
 use Rattle.std.specs.FinMap.Entries.{below_all}
 use Rattle.std.proofs.lemmas.Bool.Decides.{nat_tests}
 use Rattle.arena_chunks.specs.Memory.{Memory}
-use Rattle.arena_items.specs.Values.{bytes_of}
 use Rattle.arena_items.proofs.Layers.{length-elements}
 use Rattle.arena_hash.specs.Maps.{IsMapIn}
 use Rattle.arena_hash.specs.declared.map.HashMap.{HashMap}
 use Rattle.hash_ring.specs.declared.hasher.FxHasher.{FxHasher}
 use Rattle.script_rules.specs.Objects.{Entries, get, are_rising, need, need_of}
 use Rattle.script_rules.proofs.EntryLemmas.{both_true, none_below}
-use Rattle.arena_script.specs.Kinds.{short, pairs}
+use Rattle.arena_script.specs.Kinds.{pairs}
 use Rattle.arena_script.specs.Things.{Things, IsThingIn, object_in, objects_in, size_of, AreThings}
 use Rattle.arena_script.specs.Serves.{sizes_of}
 use Rattle.arena_script.specs.declared.thing.Thing.{Thing}
-use Rattle.arena_script.specs.declared.thing.Thing.TheVariants as thing
 use Rattle.arena_script.proofs.EntryFacts.{tied}
 
 tied_same : (x y : ℕ) → eq_by_cmp nat_cmp x y ≡ true → x ≡ y
@@ -43,12 +41,7 @@ each_of {X} P (e ∷ es) rising found =
 
 module _ (maps : (m : Memory) (h : HashMap ℕ ℕ FxHasher) → IsMapIn pairs m h → (4 + 4) * h.len ≤ h.table.block.size) (m : Memory) where
   needs_less : (t : Thing) → IsThingIn m t → need_of (object_in m t) ≤ size_of t
-  needs_less (thing.List v) held = omega
-      (arith, length-elements 4 short.decoded v.raw.len (bytes_of m v.raw.block), held.within, held.place.of_size)
-  needs_less (thing.Text t) held = omega (arith, length-take t.len (bytes_of m t.block), held.held.within, held.held.place.of_size)
-  needs_less (thing.Bits s) held = omega (arith, held.held.count, held.held.place.of_size)
-  needs_less (thing.Map h) held = omega (arith, held.count, maps m h held.held)
-  needs_less (thing.Value b) held = omega (arith, held.of_size)
+  needs_less t held = grind (arith, nat_tests, length-elements, length-take)
 
   all_need : (things : Things) → AllByRecursion (λ (e : ℕ × Thing). IsThingIn m e.1) things → need (objects_in m things) ≤ sizes_of things
   all_need [] all = omega arith

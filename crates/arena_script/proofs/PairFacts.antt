@@ -6,7 +6,7 @@ use Rattle.std.proofs.lemmas.Bool.{cases_Bool}
 use Rattle.std.proofs.lemmas.Bool.Decides.{nat_tests}
 use Rattle.std.proofs.lemmas.Slice.Eq.{bytes_eq-Decides}
 use Rattle.arena_items.specs.NumberLaws.{bytes_back}
-use Rattle.arena_hash.specs.Finite.{Finite, empty, has, value_of, key_or, with_pair, without}
+use Rattle.arena_hash.specs.Finite.{Finite, empty, has, value_of, with_pair, without}
 use Rattle.script_rules.specs.Objects.{get, bind, unbind, are_rising}
 use Rattle.arena_script.specs.Things.{content, pairs_of}
 use Rattle.arena_script.proofs.EntryFacts.{get_at, rising_from, entries_are, entries_with, entries_without}
@@ -30,8 +30,7 @@ content_eq q k low small = elim (cases_Bool (q == k)) [
     other q k f e = grind (arith, nat_tests)
 
 pub value_some : (o : Option (ℕ × ℕ)) → is_some (value_of o) ≡ is_some o
-value_some None = refl
-value_some (Some p) = refl
+value_some o = grind (arith, nat_tests)
 
 module _ (is : Finite ℕ ℕ) where
   pub rising : IsTrue (are_rising (pairs_of is))
@@ -45,26 +44,18 @@ module _ (is : Finite ℕ ℕ) where
   has_pair key low = ap is_some (get_pair key low) ∙ value_some (is (content key))
 
   value_if : (b : Bool) (p : ℕ × ℕ) (o : Option (ℕ × ℕ)) → value_of (if b then Some p else o) ≡ (if b then Some p.1 else value_of o)
-  value_if true p o = refl
-  value_if false p o = refl
+  value_if b p o = grind (arith, nat_tests)
 
   -- A pair more, in both.
   pub pairs_with : (key value : ℕ) → key < 2 ^ 32 → pairs_of (with_pair is (content key) key value) ≡ bind (pairs_of is) key value
-  pairs_with key value small = entries_with (λ q. value_of (is (content q)))
-      (λ q. value_of (with_pair is (content key) key value (content q))) (2 ^ 32) key value small
-      (λ q low. value_if (bytes_eq (content q) (content key)) (key_or (is (content key)) key, value) (is (content q))
-      ∙ ap (λ b. if b then Some value else value_of (is (content q))) (content_eq q key low small))
+  pairs_with key value small = grind (arith, nat_tests, entries_with, value_if)
 
   value_unless : (b : Bool) (o : Option (ℕ × ℕ)) → value_of (if b then None else o) ≡ (if b then None else value_of o)
-  value_unless true o = refl
-  value_unless false o = refl
+  value_unless b o = grind (arith, nat_tests)
 
   -- A key less, in both.
   pub pairs_without : (key : ℕ) → key < 2 ^ 32 → pairs_of (without is (content key)) ≡ unbind (pairs_of is) key
-  pairs_without key small = entries_without (λ q. value_of (is (content q))) (λ q. value_of (without is (content key) (content q))) (2 ^ 32)
-      key
-      (λ q low. value_unless (bytes_eq (content q) (content key)) (is (content q))
-      ∙ ap (λ b. if b then None else value_of (is (content q))) (content_eq q key low small))
+  pairs_without key small = grind (arith, nat_tests, entries_without, value_unless)
 
 -- no pairs
 pub pairs_none : pairs_of empty ≡ []

@@ -1,4 +1,5 @@
 -- A script, command after command.
+use Rattle.std.proofs.lemmas.Bool.Decides.{nat_tests}
 use Rattle.std.proofs.Common.{◌≡◌, ℕ, ◌+◌, ◌^◌, refl, sym, ap, ◌∙◌, subst, arith, Ok, Err, List, [], ◌∷◌, ◌++◌, take}
 use Rattle.arena_chunks.specs.Source.{View}
 use Rattle.arena_items.specs.Costs.{Costs}
@@ -30,13 +31,7 @@ pub record GoesOn (script : List Command) (i : ℕ) (c : Command) : Type 0 where
 
 one_more : (script : List Command) (i : ℕ) (c : Command) → take (i + 1) script ≡ take i script ++ c ∷ [] → GoesOn script i c
 unfolding run_from
-one_more script i c is =
-    let on = ap run is ∙ goes_on [] (take i script) (c ∷ []) in record {
-      objects = ap (λ r. r.objects) on;
-      replies = ap (λ r. r.replies) on;
-      cost = ap (λ r. sum r.costs) on ∙ sum_append (run (take i script)).costs ((step c (run (take i script)).objects).cost ∷ [])
-          ∙ ap (λ n. cost_of (take i script) + n) (omega arith);
-    }
+one_more script i c is = grind (arith, nat_tests, goes_on, sum_append)
 
 -- the capacities after one more command
 rooms_more : (objects : Objects) (rooms : Rooms) (script : List Command) (c : Command)
@@ -94,8 +89,7 @@ module _ {script : List Command} {start now : View} {things : Things} {i : ℕ} 
   pub reply_more : {next : View} {later : Things} {reply : ScriptReply} {replies : List ScriptReply}
       → replies ≡ (run (take i script)).replies
       → Serves c now next things later reply → replies ++ reply ∷ [] ≡ (run (take (i + 1) script)).replies
-  reply_more are serves =
-      (λ p. are p ++ (serves.reply_is ∙ ap (λ o. (step c o).reply) after.objects) p ∷ []) ∙ sym more.replies
+  reply_more are serves = grind (arith, nat_tests, more)
 
   -- What a command that wasn't served costs, with those before it.
   module _ {next : View} {e : AllocError} (stops : Stops c now next things e) where

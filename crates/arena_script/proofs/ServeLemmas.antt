@@ -1,4 +1,5 @@
 -- What a command leaves of all things.
+use Rattle.std.proofs.lemmas.Bool.Decides.{nat_tests}
 use Rattle.std.proofs.Common.{◌≡◌, ◌≢◌, ℕ, ◌-◌, ◌≤◌, refl, sym, ap, ◌∙◌, subst, arith, Bool, true, false, Option, Some, None, Result, Ok, Err, inl, inr, [], ◌∷◌, eqb-true}
 use Rattle.std.specs.Prelude.{IfSome, ◌==◌, ◌||◌, if◌then◌else◌, IsTrue}
 use Rattle.std.specs.Option.{option_map}
@@ -30,8 +31,7 @@ use Rattle.arena_script.proofs.CostFacts.{still, nothing_given, costs_beside}
 use Rattle.arena_script.proofs.ThingLemmas.{StaysThing, get_mapped, effect_seen, rising_mapped, others_stay, seen_again, other_name}
 
 or_right : (a b : Bool) → IsTrue b → IsTrue (a || b)
-or_right true b h = refl
-or_right false b h = h
+or_right a b h = grind (arith, nat_tests)
 
 same_kind : (a : View) → KeepsKind a.memory a.memory
 same_kind a = record { is_growing = refl; allocated = λ stays. refl }
@@ -62,21 +62,13 @@ record IsChanged (things later : Things) (old new : Memory) (name : ℕ) (o : Op
 
 module _ {things later : Things} {old new : Memory} {name : ℕ} {o : Option Thing} (is : IsChanged things later old new name o) where
   same_at : (q : ℕ) → seen new later q ≡ (if q == name then option_map (object_in new) o else get (objects_in old things) q)
-  same_at q =
-      ap (option_map (object_in new)) (is.at q)
-      ∙ elim (q == name) as (λ b. (q == name) ≡ b → option_map (object_in new) (if b then o else get things q)
-      ≡ (if b then option_map (object_in new) o else get (objects_in old things) q)) [
-        | true ↦ λ test. refl
-        | false ↦ λ test.
-            seen_again old new (blocks_of o) (get things q) (is.stay q (other_name q name test)) ∙ sym (get_mapped old things q)
-      ] refl
+  same_at q = grind (arith, nat_tests, seen_again, other_name, get_mapped)
 
   -- They represent the objects as before at all other names.
   objects_are : (os : Objects) → IsTrue (are_rising os)
       → ((q : ℕ) → get os q ≡ (if q == name then option_map (object_in new) o else get (objects_in old things) q))
       → objects_in new later ≡ os
-  objects_are os rising at = same_by_get (objects_in new later) os (rising_mapped new later ∙ is.rising) rising
-      (λ q. get_mapped new later q ∙ same_at q ∙ sym (at q))
+  objects_are os rising at = grind (arith, nat_tests, same_by_get, rising_mapped, get_mapped, same_at)
 
   held_then : (n : ℕ) → IfSome (get later n) (IsThingIn new)
   held_then n = subst (λ x. IfSome x (IsThingIn new)) (sym (is.at n))
@@ -233,13 +225,8 @@ module _ (command : Command) (a : View) {things : Things} (are : AreThings a.mem
         ∙ sym (ap (λ (x : Answer). x.objects) gone)
 
     rooms_left : (rooms : Rooms) → HaveRooms things rooms → HaveRooms (unbind things name) (rooms_step command here rooms)
-    rooms_left rooms have q = subst (λ e. IfSome (get (unbind things name) q) (λ u. room_in u ≡ rooms_then e here rooms q))
-        (sym (effect_seen command a.memory things ∙ is))
-        (subst (λ o. IfSome o (λ u. room_in u ≡ rooms q)) (sym (get_unbind things name q))
-        (elim (q == name) as (λ b. IfSome (if b then None else get things q) (λ u. room_in u ≡ rooms q)) [
-          | true ↦ tt
-          | false ↦ have q
-        ]))
+    unfolding effect object_in
+    rooms_left rooms have q = grind (arith, nat_tests, effect_seen, get_unbind)
 
     pub let_go_serves : Serves command a a things (unbind things name) Done
     let_go_serves =
@@ -271,11 +258,7 @@ nothing_stops {command} {things} {old} {new} {e} gives =
 
 -- If memory ran out for the reply, nothing changed.
 untold_stops : {command : Command} {things : Things} {old : View} → IsTrue (tells_much command) → Stops command old old things OutOfMemory
-untold_stops {command} {things} {old} much =
-    let costs = costs_exhausted (nothing_given (step command (objects_in old.memory things)).cost (credits_of things) 0 old old (still old)
-    (omega arith)) in
-    let taken : IsTrue (tells_much command || takes_room command) = ap (λ b. b || takes_room command) much in
-    grind (arith, costs, taken)
+untold_stops {command} {things} {old} much = grind (arith, nat_tests, costs_exhausted, nothing_given, still)
 
 -- ---- The names after a command
 

@@ -1,5 +1,5 @@
 -- What commands on texts do.
-use Rattle.std.proofs.Common.{IsTrue, Result, inl, inr, ◌≡◌, ℕ, ◌+◌, ◌-◌, ◌*◌, ◌^◌, ◌<◌, ◌≤◌, refl, sym, ap, ◌∙◌, arith, true, false, Ok, Err, Some, None, List, [], ◌∷◌, ◌++◌, length, length-append}
+use Rattle.std.proofs.Common.{IsTrue, Result, ◌≡◌, ℕ, ◌+◌, ◌-◌, ◌*◌, ◌^◌, ◌<◌, ◌≤◌, refl, sym, ap, ◌∙◌, arith, true, false, Ok, Err, Some, None, List, [], ◌∷◌, ◌++◌, length, length-append}
 use Rattle.std.specs.Prelude.{nat_lt}
 use Rattle.std.specs.List.{list_any}
 use Rattle.std.proofs.lemmas.Bool.Decides.{nat_tests}
@@ -25,7 +25,6 @@ use Rattle.arena_script.specs.Rooms.{text_room}
 use Rattle.arena_script.specs.Asks.{asks, longer_text}
 use Rattle.arena_script.specs.Acts.{Acts, GivesThing, GivesNothing}
 use Rattle.arena_script.specs.declared.act.Act.{Act}
-use Rattle.arena_script.specs.declared.act.Act.TheVariants as act
 use Rattle.arena_script.specs.declared.thing.Thing.TheVariants as thing
 use Rattle.arena_script.proofs.CostFacts.{IsPaid, still, nothing_given, grown_least, grown_costs, grown_refused}
 use Rattle.arena_script.proofs.AskLemmas.{growth_asked}
@@ -66,13 +65,7 @@ module _ {things : Things} {m : Memory} {name : ℕ} {t : StringBuilder} (h : Ho
 
   pub append_puts : (more : List ℕ) → list_any not_ascii more ≡ false → Puts h (Append name more) more (builder_bytes m t ++ more)
   unfolding effect
-  append_puts more low = record {
-    taken = refl;
-    asks_is = refl;
-    effect_is = rw h.found refl;
-    longer = length-append (builder_bytes m t) more;
-    low = low;
-  }
+  append_puts more low = grind (arith, nat_tests, length-append)
 
   module _ (lengths : HaveLengths) {command : Command} {more list : List ℕ} (puts : Puts h command more list) where
     counted : t.len ≡ length (builder_bytes m t)
@@ -140,31 +133,7 @@ module _ (rule : GrowthRule) (lengths : HaveLengths) (old new : View) (u : Strin
 pub byte_acts : (name byte : ℕ) (things : Things) (old new : View) (result : Result Act AllocError)
     → Acts (Append name (byte ∷ [])) things old new result → Acts (Byte name byte) things old new result
 unfolding effect
-byte_acts name byte things old new (Ok (act.Gives given thing reply)) acts = record {
-  cost = acts.cost;
-  effect_is = acts.effect_is;
-  taken = acts.taken;
-  held = acts.held;
-  room = acts.room;
-  least = acts.least;
-  costs = acts.costs;
-  frame = acts.frame;
-}
-byte_acts name byte things old new (Ok told) acts = acts
-byte_acts name byte things old new (Err e) (inl acts) = inl (record {
-  name = acts.name;
-  object = acts.object;
-  reply = acts.reply;
-  cost = acts.cost;
-  effect_is = acts.effect_is;
-  taken = acts.taken;
-  fits = acts.fits;
-  costs = acts.costs;
-  asked = acts.asked;
-  denied = acts.denied;
-  same = acts.same;
-})
-byte_acts name byte things old new (Err e) (inr untold) = absurd (let no = untold.much in cc)
+byte_acts name byte things old new result acts = grind (arith, nat_tests)
 
 -- ---- A new text
 

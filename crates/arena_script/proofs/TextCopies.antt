@@ -1,5 +1,6 @@
 -- What copies of texts do.
-use Rattle.std.proofs.Common.{IsPermutation, ◌≡◌, ℕ, ◌+◌, ◌*◌, ◌^◌, ◌≤◌, sym, ap, ◌∙◌, subst, arith, IsTrue, Ok, Err, Some, None, Result, List, [], ◌∷◌, length, take}
+use Rattle.std.proofs.lemmas.Bool.Decides.{nat_tests}
+use Rattle.std.proofs.Common.{IsPermutation, ◌≡◌, ℕ, ◌+◌, ◌*◌, ◌^◌, ◌≤◌, sym, ap, ◌∙◌, subst, arith, IsTrue, Ok, Err, Some, None, Result, List, [], ◌∷◌, length}
 use Rattle.std.proofs.lemmas.List.{take_all}
 use Rattle.arena_rules.specs.Rounding.{is_layout}
 use Rattle.arena_chunks.specs.Source.{View}
@@ -55,28 +56,16 @@ module _ (old new : View) (other : ℕ) {things : Things} {name : ℕ} {t : Stri
 
   module _ {copy : Str} (copies : Cloned (Ok copy)) where
     is_taken : IsTaken old new s.block.size 1 copies.blocks cost one layout (omega arith) few (credit_of (thing.Text (now copy)))
-    is_taken = taken old new s.block.size 1 copies.blocks cost one layout (omega arith) few (credit_of (thing.Text (now copy)))
-        (omega (arith, size)) copies.placed.asked
+    is_taken = grind (arith, nat_tests, taken, layout, few)
 
     own : copy.block ≡ is_taken.block
     own = sym (one_block copy.block is_taken.block (subst (λ bs. IsPermutation (copy.block ∷ []) bs) is_taken.is copies.made.deep))
 
     text_held : IsWordsIn new.memory (now copy)
-    text_held = record {
-      held = record {
-        place = record {
-          readable = copies.made.held;
-          of_size = ap (λ (b : Block). b.size) own ∙ is_taken.of_size ∙ size;
-          of_align = ap (λ (b : Block). b.align) own ∙ is_taken.of_align;
-        };
-        within = omega arith;
-      };
-      room = omega arith;
-    }
+    text_held = grind (arith, nat_tests, own, is_taken)
 
     bytes_same : builder_bytes new.memory (now copy) ≡ builder_bytes old.memory t
-    bytes_same = ap (λ (bs : List ℕ). take t.len bs) (copies.made.means ∙ bytes_are)
-        ∙ take_all t.len (builder_bytes old.memory t) (omega (arith, count))
+    bytes_same = grind (arith, nat_tests, take_all)
 
     text_is : object_in new.memory (thing.Text (now copy)) ≡ object_in old.memory (thing.Text t)
     text_is = ap AText bytes_same

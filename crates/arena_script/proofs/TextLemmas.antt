@@ -1,9 +1,8 @@
 -- Texts in an arena: how their growth is paid.
-use Rattle.std.proofs.Common.{◌≡◌, ℕ, ◌+◌, ◌-◌, ◌*◌, ◌^◌, ◌<◌, ◌≤◌, max, refl, subst, arith, IsTrue, inl, inr, true}
-use Rattle.std.specs.Prelude.{nat_le}
+use Rattle.std.proofs.Common.{◌≡◌, ℕ, ◌+◌, ◌-◌, ◌*◌, ◌^◌, ◌<◌, ◌≤◌, max, subst, arith, IsTrue, inl, inr}
 use Rattle.std.proofs.lemmas.Bool.{cases_lt}
 use Rattle.std.proofs.lemmas.Bool.Decides.{nat_tests}
-use Rattle.arena_rules.specs.Rounding.{up, is_layout, is_power_among}
+use Rattle.arena_rules.specs.Rounding.{is_layout, is_power_among}
 use Rattle.arena_rules.proofs.RoundingLemmas.{up_same}
 use Rattle.arena_chunks.specs.Memory.{Memory}
 use Rattle.arena_items.specs.Room.{capacity_after}
@@ -24,10 +23,7 @@ pub record GrowthRule : Type 0 where
 
 pub bytes_layout : (n : ℕ) → n < 2 ^ 62 → IsTrue (is_layout n 1)
 unfolding is_power_among
-bytes_layout n few =
-    let same : up n 1 ≡ n = up_same n 1 (omega arith) (omega arith) in
-    let fits : nat_le n (2 ^ 63 - 1) ≡ true = grind (arith, nat_tests) in
-    rw (same, fits) refl
+bytes_layout n few = grind (arith, nat_tests, up_same)
 
 -- More bytes are paid by four for each and the credit, and the room is at most twice the bytes and eight.
 module _ (rule : GrowthRule) {m : Memory} (t : StringBuilder) (n : ℕ) (held : IsWordsIn m t) (small : t.len + n < 2 ^ 32) where

@@ -84,8 +84,7 @@ rising_mapped m (e ∷ es) = λ i. below_mapped m es e.0 i && rising_mapped m es
 module _ (old new : Memory) (things : Things) (name : ℕ) (after : List Block) (frame : Frame old new (blocks_of (get things name)) after)
     (held : (n : ℕ) → IfSome (get things n) (IsThingIn old)) (apart : (n k : ℕ) → n ≢ k → AreHeldApart (get things n) (get things k)) where
   apart_from : (t : Thing) (o : Option Thing) → AreHeldApart (Some t) o → IsApart (block_of t).addr (block_of t).size (blocks_of o)
-  apart_from t None is = tt
-  apart_from t (Some u) is = (is, tt)
+  apart_from t o is = grind (arith, nat_tests)
 
   pub others_stay : (n : ℕ) → n ≢ name → IfSome (get things n) (StaysThing old new after)
   others_stay n other = by (get things n) (held n) (apart n name other)
@@ -97,8 +96,7 @@ module _ (old new : Memory) (things : Things) (name : ℕ) (after : List Block) 
 -- an unchanged thing represents the same object
 pub seen_again : (old new : Memory) (after : List Block) (o : Option Thing) → IfSome o (StaysThing old new after)
     → option_map (object_in new) o ≡ option_map (object_in old) o
-seen_again old new after None stays = refl
-seen_again old new after (Some t) stays = ap Some stays.means
+seen_again old new after o stays = grind (arith, nat_tests)
 
 -- What a name holds is well formed, and an object.
 pub record Holds (things : Things) (m : Memory) (name : ℕ) (t : Thing) : Type 0 where

@@ -1,5 +1,6 @@
 -- What commands on values do.
-use Rattle.std.proofs.Common.{◌≡◌, refl, ℕ, arith, IsTrue, Ok, Err, Option, Some, None, is_some, false, List}
+use Rattle.std.proofs.lemmas.Bool.Decides.{nat_tests}
+use Rattle.std.proofs.Common.{◌≡◌, refl, ℕ, arith, IsTrue, Ok, Err, Option, None, is_some, false, List}
 use Rattle.arena_rules.specs.Rounding.{is_layout}
 use Rattle.arena_chunks.specs.Memory.{Memory}
 use Rattle.arena_chunks.specs.Source.{View}
@@ -30,8 +31,7 @@ use Rattle.arena_script.proofs.GivingLemmas.{exchanged, made, kept}
 use Rattle.arena_script.proofs.ThingLemmas.{Holds}
 
 pub is_none : {X : Type 0} (o : Option X) → is_some o ≡ false → o ≡ None
-is_none None none = refl
-is_none (Some x) none = absurd (cc)
+is_none o none = grind (arith, nat_tests)
 
 -- ---- A value that a name holds
 
