@@ -1,9 +1,9 @@
 -- Sets of names and scopes, as texts are given numbers and names are defined.
+use Rattle.std.proofs.lemmas.Bool.Decides.{nat_tests, same_from_decides}
 use Rattle.std.proofs.Common.{◌≡◌, ℕ, ◌<◌, List, [], ◌∷◌, ◌++◌, length, length-append, refl, sym, ap, ◌∙◌, inl, inr, Some, None, Option, true, false, Bool, is_some, not, arith}
 use Rattle.std.specs.Prelude.{if◌then◌else◌, ◌==◌, slice_get, bytes_eq}
 use Rattle.std.specs.List.{AllZip}
 use Rattle.std.proofs.lemmas.Bool.{cases_Bool, cond-false, eqb-true, eq-eqb, ne_eqb}
-use Rattle.std.proofs.lemmas.Bool.Decides.{same_from_decides}
 use Rattle.std.proofs.lemmas.Option.{same_Some, slice_get_within}
 use Rattle.std.proofs.lemmas.Slice.Eq.{bytes_eq-Decides}
 use Rattle.arena_symbols.specs.Interner.{number_of, with_text}
@@ -52,11 +52,7 @@ same_number texts name other id is = same_from_decides (bytes_eq name other) (is
 
 scope_grown : (texts : List (List ℕ)) (text : List ℕ) → number_of texts text ≡ None → (names : NameSet) (scope : List (ℕ × ℕ))
     → IsScope texts names scope → IsScope (texts ++ text ∷ []) names scope
-scope_grown texts text none names scope is = record {
-  same = λ name. let is_text = (bytes_eq-Decides name text).0 in let away = is.within (length texts) (omega arith) in
-      grind (arith, is.same name, number_push texts text name none, away, is_text, none);
-  within = λ id far. is.within id (omega (arith, far, length-append texts (text ∷ [])));
-}
+scope_grown texts text none names scope is = grind (arith, nat_tests, bytes_eq-Decides, number_push, length-append)
 
 pub scopes_grown : (texts : List (List ℕ)) (text : List ℕ) (sets : List NameSet) (scopes : List (List (ℕ × ℕ)))
     → AreScopes texts sets scopes → AreScopes (with_text texts text) sets scopes

@@ -1,4 +1,5 @@
 -- The handles of a walk, as calls change them.
+use Rattle.std.proofs.lemmas.Bool.Decides.{nat_tests}
 use Rattle.std.proofs.Common.{◌≡◌, ℕ, ◌<◌, List, [], ◌∷◌, length, arith, Ok, true, Bool, is_some}
 use Rattle.std.specs.Prelude.{Result}
 use Rattle.arena_chunks.specs.Memory.{Memory}
@@ -29,9 +30,7 @@ some_scope m s = by (pairs_of (entries_in entry_item m s)) (starts_in m s)
 
 not_empty : (texts : List (List ℕ)) (sets : List NameSet) (scopes : List (List (ℕ × ℕ))) → 0 < length scopes → AreScopes texts sets scopes
     → IsNotEmpty sets
-not_empty texts [] [] some are = absurd (omega (arith, some))
-not_empty texts [] (scope ∷ scopes) some are = are
-not_empty texts (names ∷ sets) scopes some are = tt
+not_empty texts sets scopes some are = grind (arith, nat_tests)
 
 -- ---- A definition
 

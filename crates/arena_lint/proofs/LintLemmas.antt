@@ -1,5 +1,6 @@
 -- The report of one text.
-use Rattle.std.proofs.Common.{◌≡◌, ℕ, ◌+◌, ◌^◌, ◌≤◌, List, [], ◌∷◌, length, refl, sym, ap, ◌∙◌, inl, inr, true, false, Bool, Ok, Err, Some, None, arith}
+use Rattle.std.proofs.lemmas.Bool.Decides.{nat_tests}
+use Rattle.std.proofs.Common.{◌≡◌, ℕ, ◌+◌, ◌^◌, ◌≤◌, List, [], ◌∷◌, length, refl, ap, inr, true, false, Bool, Ok, Err, Some, None, arith}
 use Rattle.std.specs.Prelude.{◌*◌, ◌⊎◌, Option, IfNone}
 use Rattle.arena_rules.specs.State.{used_bytes}
 use Rattle.arena_rules.proofs.AskingLemmas.{asks_more}
@@ -7,7 +8,7 @@ use Rattle.arena_chunks.specs.Memory.{Memory}
 use Rattle.arena_chunks.specs.Source.{View}
 use Rattle.arena_chunks.specs.Frame.{AreAllApart}
 use Rattle.arena_store.specs.declared.block.Block.{Block}
-use Rattle.arena_chunks.specs.Asking.{AsksWithin, IsStarved, IsFull}
+use Rattle.arena_chunks.specs.Asking.{IsStarved, IsFull}
 use Rattle.arena_chunks.proofs.Layers.{all_of_both}
 use Rattle.arena_items.specs.Costs.{used}
 use Rattle.arena_items.specs.Denied.{Layouts, Only, IsDenied}
@@ -15,9 +16,9 @@ use Rattle.arena_items.specs.declared.room.AllocError.{AllocError}
 use Rattle.arena_items.specs.declared.room.AllocError.TheVariants as alloc
 use Rattle.arena_vec.specs.Vecs.{vec_list}
 use Rattle.arena_symbols.specs.Named.{AreNames, AreNewNames, all_blocks, all_credit}
-use Rattle.arena_symbols.specs.Names.{names_in, names_footprint}
+use Rattle.arena_symbols.specs.Names.{names_in}
 use Rattle.arena_symbols.specs.Scoping.{pair_count}
-use Rattle.arena_symbols.specs.Tables.{entry_item, scopes_in, table_blocks}
+use Rattle.arena_symbols.specs.Tables.{entry_item, scopes_in}
 use Rattle.arena_symbols.specs.declared.names.Names.{Names as Known}
 use Rattle.arena_symbols.proofs.Layers.{all_turned, denied_more, more_asked}
 use Rattle.tree_rules.specs.Report.{findings_of}
@@ -31,12 +32,11 @@ use Rattle.arena_tree.specs.StmtsAt.{stmts_blocks}
 use Rattle.arena_tree.specs.TreesAt.{node_item}
 use Rattle.arena_tree.specs.declared.tree.Tree.{Tree}
 use Rattle.arena_tree.specs.declared.tree.TreeErr.{TreeErr}
-use Rattle.arena_tree.specs.declared.tree.TreeErr.TheVariants as tree
 use Rattle.arena_tree.proofs.Layers.{nodes_used, one_stmts}
 use Rattle.lint_reports.specs.Taking.{Taking}
 use Rattle.lint_reports.specs.Reports.{Reports, said}
 use Rattle.lint_reports.specs.declared.report.FileReport.{FileReport}
-use Rattle.lint_reports.specs.declared.report.FileReport.TheVariants.{Checked, Full, Refused, OutOfMemory}
+use Rattle.lint_reports.specs.declared.report.FileReport.TheVariants.{Full, Refused, OutOfMemory}
 use Rattle.arena_lint.specs.Knowing.{Knows}
 use Rattle.arena_lint.specs.Linting.{Lints, Checks, LintsAsk, lint_bytes, no_place, unparsed_by}
 use Rattle.arena_lint.specs.Rooms.{ListHasStmts, IsLight}
@@ -56,16 +56,7 @@ pub record IsNothing (k : Known) : Type 0 where
   pub apart : (m : Memory) (blocks : List Block) → AreAllApart blocks (all_blocks m k)
 
 pub nothing_known : {k : Known} → AreNewNames k → IsNothing k
-nothing_known {k} new = record {
-  known = new.held;
-  knows = λ m. rw (new.symbols.names m, new.scopes.scopes m) (no_names [], tt);
-  names = new.symbols.names;
-  scopes = new.scopes.scopes;
-  credit = omega (arith, new.symbols.credit, new.scopes.credit);
-  apart = λ m blocks. all_turned (all_blocks m k) blocks
-      ((all_of_both (table_blocks k.scopes) (names_footprint m k.symbols) blocks).1
-      (new.scopes.apart blocks, new.symbols.apart m blocks));
-}
+nothing_known {k} new = grind (arith, nat_tests, no_names, all_turned, all_of_both)
 
 -- ---- A tree
 
@@ -118,10 +109,7 @@ nothing_spends {old} {k = k} trees is none means takes =
 -- A text's tree was not refused.
 pub parse_spends : {layouts : Layouts} {few all : ℕ} {old new : View} → few ≤ all → TakesAtMost few old new
     → Spends layouts all 0 0 old new None
-parse_spends {few = few} {all = all} {old = old} {new = new} less takes =
-    let asks = asks_more (used old + few) (used old + (all + 0)) old.memory.state new.memory.state old.source new.source
-    (omega (arith, less)) takes.asks in
-    grind (arith, takes, less, asks)
+parse_spends {few = x0} {all = x1} {old = x2} {new = x3} less takes = grind (arith, nat_tests, asks_more)
 
 -- ---- Reports
 
@@ -132,28 +120,17 @@ module _ {bytes : List ℕ} {old new : View} {error : Option AllocError} (unused
       → ((report ≡ Full) ⊎ (report ≡ Refused) → IsDenied (LintsAsk bytes) new)
       → (report ≡ Full → IsFull (lint_bytes (length bytes)) old) → (report ≡ Refused → IsStarved (2 ^ 62) old new)
       → Lints bytes old new report
-  lints report reports stopped denied full refused =
-      let asks : AsksWithin (used old + lint_bytes (length bytes)) old new
-      = asks_more _ _ old.memory.state new.memory.state old.source new.source (omega arith) spends.asks in
-      grind (arith, reports, stopped, denied, full, refused, asks, spends, unused)
+  lints report reports stopped denied full refused = grind (arith, nat_tests, asks_more)
 
   -- no place for a block
   lints_unplaced : (growing : Bool) → new.memory.state.is_growing ≡ growing → IsProgramText bytes
       → IsDenied (LintsAsk bytes) new → (old.memory.state.is_growing ≡ true → IsStarved (2 ^ 62) old new)
       → (old.memory.state.is_growing ≡ false → IsFull (used old + lint_bytes (length bytes)) old) → Lints bytes old new (no_place growing)
-  lints_unplaced true is program denied starved full =
-      lints Refused tt program (λ said. denied) (λ no. absurd (cc)) (λ refused. starved (sym spends.kind.is_growing ∙ is))
-  lints_unplaced false is program denied starved full = lints Full tt program (λ said. denied) (λ said.
-      let short = full (sym spends.kind.is_growing ∙ is) in record { still = short.still; short = omega (arith, short.short, unused) })
-      (λ no. absurd (cc))
+  lints_unplaced growing is program denied starved full = grind (arith, nat_tests, lints)
 
   -- A text that has no tree is reported so.
   pub unparsed : (why : TreeErr) → ParsesInOnePass bytes old new (Err why) → Lints bytes old new (unparsed_by new.memory.state.is_growing why)
-  unparsed (tree.AllocErr k) parsed = lints_unplaced new.memory.state.is_growing refl parsed.0
-      (denied_more (λ size align asks. inl asks) parsed.1.denied) parsed.1.starved
-      (λ still. let short = parsed.1.full still in record { still = still; short = omega (arith, short.short) })
-  unparsed tree.OutOfMemory parsed = lints OutOfMemory tt parsed.0 (λ no. grind (arith, no)) (λ no. absurd (cc)) (λ no. absurd (cc))
-  unparsed why parsed = lints _ parsed.0 tt (λ no. grind (arith, no)) (λ no. absurd (cc)) (λ no. absurd (cc))
+  unparsed why parsed = grind (arith, nat_tests, lints_unplaced, denied_more, lints)
 
 -- What a walk over a tree spends.
 abbrev Walks : View → View → Tree → Option AllocError → Type 0
@@ -173,12 +150,7 @@ module _ {bytes : List ℕ} {old mid new : View} (t : Tree) (light : AreLight) (
   pub checked : {F : Type 0} (taking : Taking F) {first found : F}
       → ((trees : Stmts) → Means mid.memory t trees → taking.gains first found (findings_of trees)) → Walks mid new t None
       → Checks taking bytes old new first found
-  checked taking gained walks = record {
-    findings = findings_of parsed.0;
-    gained = gained parsed.0 parsed.2.stand;
-    lints = lints unused (all_spends walks) (Checked (findings_of parsed.0)) (parsed.0, parsed.1, refl) tt (λ no. grind (arith, no))
-        (λ no. absurd (cc)) (λ no. absurd (cc));
-  }
+  checked taking gained walks = grind (arith, nat_tests, lints, all_spends)
 
   pub unplaced : (k : ℕ) → Walks mid new t (Some (alloc.AllocErr k)) → Lints bytes old new (no_place new.memory.state.is_growing)
   unplaced k walks = let spent = all_spends walks in
@@ -187,8 +159,7 @@ module _ {bytes : List ℕ} {old mid new : View} (t : Tree) (light : AreLight) (
       (λ still. let short = spent.full still k refl in record { still = still; short = omega (arith, short.short) })
 
   pub exhausted : Walks mid new t (Some alloc.OutOfMemory) → Lints bytes old new OutOfMemory
-  exhausted walks = lints unused (all_spends walks) OutOfMemory tt (parsed.0, parsed.1) (λ no. grind (arith, no))
-      (λ no. absurd (cc)) (λ no. absurd (cc))
+  exhausted walks = grind (arith, nat_tests, lints, all_spends)
 
   pub fits : Walks mid new t (Some alloc.CapacityOverflow) → ⊥
   fits walks = (all_spends walks).fits refl

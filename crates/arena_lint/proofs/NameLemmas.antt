@@ -1,4 +1,5 @@
 -- Walks over the nodes of expressions.
+use Rattle.std.proofs.lemmas.Bool.Decides.{nat_tests}
 use Rattle.std.proofs.Common.{◌≡◌, ℕ, zero, suc, ◌+◌, ◌-◌, ◌≤◌, List, [], ◌∷◌, ◌++◌, refl, sym, ◌∙◌, Some, subst, arith, drop, append-nil}
 use Rattle.std.specs.Prelude.{slice_get}
 use Rattle.std.specs.Str.{IsUtf8}
@@ -42,11 +43,7 @@ pub record HasKids (m : Memory) (n : Node) (names : List (List ℕ)) (count : �
 
 kids_are : {IsGood : Type 0} {m : Memory} {n : Node} {names : List (List ℕ)} {count : ℕ} (es : Exprs) → IsVecIn node_item m (kids_of n)
     → ExprsAt es m (kids_in m n) → names ≡ all_names es → nodes es ≡ count → (IsGood → AreExprs es) → HasKids m n names count IsGood
-kids_are es held stand are is good = record {
-  named = record { exprs = es; stand = stand; names_are = are };
-  have = λ room all few.
-      record { held = held; have = record { exprs = es; stand = stand; good = good all; few = omega (arith, few, is) } };
-}
+kids_are es held stand are is good = grind (arith, nat_tests)
 
 one_kid : {IsGood : Type 0} {m : Memory} {n : Node} (e : Expr) → (IsGood → IsExpr e) → IsVecIn node_item m (kids_of n)
     → IsOnly (kids_in m n) (λ k. ExprAt e m k) → HasKids m n (names_of e) (1 + below e) IsGood

@@ -1,5 +1,6 @@
 -- What calls spend one after another.
-use Rattle.std.proofs.Common.{◌≡◌, ℕ, ◌+◌, ◌≤◌, refl, ap, arith, Ok, Err, Some, None, List}
+use Rattle.std.proofs.lemmas.Bool.Decides.{nat_tests}
+use Rattle.std.proofs.Common.{◌≡◌, ℕ, ◌+◌, ◌≤◌, refl, arith, Err, Some, None, List}
 use Rattle.std.specs.Prelude.{Result, Option, IsErr, IsErrAnd}
 use Rattle.std.proofs.lemmas.Option.{none-some, same_Some}
 use Rattle.arena_rules.proofs.AskingLemmas.{asks_more, asks_then, refused_after}
@@ -11,7 +12,7 @@ use Rattle.arena_chunks.proofs.Layers.{asks_same}
 use Rattle.arena_items.specs.Costs.{Costs, used}
 use Rattle.arena_items.specs.Denied.{Layouts, Only, IsDenied}
 use Rattle.arena_items.specs.declared.room.AllocError.{AllocError}
-use Rattle.arena_items.specs.declared.room.AllocError.TheVariants.{AllocErr, CapacityOverflow, OutOfMemory}
+use Rattle.arena_items.specs.declared.room.AllocError.TheVariants.{AllocErr, CapacityOverflow}
 use Rattle.arena_symbols.specs.Paying.{far_up}
 use Rattle.arena_symbols.specs.declared.names.Names.{Names as Known}
 use Rattle.arena_symbols.proofs.Layers.{denied_more, more_asked}
@@ -22,8 +23,7 @@ pub frame_kind : {old new : Memory} {before after : List Block} → Frame old ne
 frame_kind frame = record { is_growing = frame.is_growing; allocated = frame.allocated }
 
 err_is : {X : Type 0} (result : Result X AllocError) (e : AllocError) → error_of result ≡ Some e → result ≡ Err e
-err_is (Ok x) e is = absurd (none-some e is)
-err_is (Err f) e is = ap Err (same_Some f e is)
+err_is result e is = grind (arith, nat_tests, none-some, same_Some)
 
 -- ---- Spending
 
@@ -32,11 +32,8 @@ pub spends_costs : {X : Type 0} {layouts : Layouts} {few many before after all l
     → Costs far_up few before after old new result → KeepsKind old.memory new.memory → (result ≡ Err CapacityOverflow → ⊥)
     → ((k : ℕ) → result ≡ Err (AllocErr k) → IsDenied layouts new) → few + before ≤ many + all
     → few + before + left ≤ many + all + after → Spends layouts many all left old new (error_of result)
-spends_costs {few = few} {many = many} {before = before} {all = all} {old = old} {new = new} {result = result} costs kind fits denied less paid =
-    let asks = asks_more (used old + (few + before)) (used old + (many + all)) old.memory.state new.memory.state old.source new.source
-    (omega (arith, less)) costs.asks in
-    let is = err_is result in
-    grind (arith, costs, kind, fits, denied, less, paid, asks, is)
+spends_costs {few = x0} {many = x1} {before = x2} {all = x3} {old = x4} {new = x5} {result = x6} costs kind fits denied less paid =
+    grind (arith, nat_tests, asks_more, err_is)
 
 -- Calls, and then others.
 pub spends_then : {asked asked_now layouts : Layouts} {one two all total before between after left : ℕ} {old mid new : View} {error : Option AllocError}
@@ -56,10 +53,7 @@ spends_then {layouts = layouts} {one = one} {two = two} {all = all} {total = tot
 -- Nothing is done, and memory may run out.
 pub spends_nothing : {layouts : Layouts} {bytes saved : ℕ} {a : View} {error : Option AllocError} → IsExhausted error
     → Spends layouts bytes saved saved a a error
-spends_nothing {bytes = bytes} {saved = saved} {a = a} {error = error} exhausted =
-    let asks = asks_same (used a + (bytes + saved)) a a refl refl in
-    let only : (e : AllocError) → error ≡ Some e → e ≡ OutOfMemory = λ e is. rw is at exhausted in
-    grind (arith, asks, only)
+spends_nothing {bytes = x0} {saved = x1} {a = x2} {error = x3} exhausted = grind (arith, nat_tests, asks_same)
 
 -- ---- Statements
 
@@ -87,5 +81,4 @@ takes_exhausted a k error exhausted = record { numbers = λ is. omega arith; spe
 -- what `?` passes on
 pub err_takes : {X : Type 0} {weight : ℕ} {old new : View} {k l : Known} (result : Result X AllocError) {e : AllocError}
     → IsErr result × IsErrAnd result (λ f. f ≡ e) → Takes weight old new k l (Some e) → Takes weight old new k l (error_of result)
-err_takes (Ok x) is takes = absurd is.1
-err_takes (Err f) is takes = rw is.1 takes
+err_takes result is takes = grind (arith, nat_tests)

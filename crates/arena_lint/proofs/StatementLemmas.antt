@@ -1,5 +1,6 @@
 -- Statements of a tree, one by one, and in a later arena.
-use Rattle.std.proofs.Common.{◌≡◌, ℕ, zero, suc, ◌-◌, ◌<◌, ◌≤◌, ◌^◌, List, [], ◌∷◌, length, refl, sym, ap, subst, Some, Ok, Err, arith}
+use Rattle.std.proofs.lemmas.Bool.Decides.{nat_tests}
+use Rattle.std.proofs.Common.{◌≡◌, ℕ, zero, suc, ◌-◌, ◌<◌, ◌≤◌, ◌^◌, List, [], ◌∷◌, length, refl, sym, ap, subst, Some, arith}
 use Rattle.std.specs.Prelude.{slice_get, Result, OnOk}
 use Rattle.std.specs.Str.{IsUtf8}
 use Rattle.arena_chunks.specs.Memory.{Memory}
@@ -78,11 +79,7 @@ module _ {F : Type 0} (taking : Taking F) where
       → Finds taking old new k l mid found result (defined (text_bytes old n.text))
       → Finds taking old new k l first found result (walk_stmt s)
   unfolding walk_stmt
-  let_finds old new k l first mid found (Err e) s n at is uses finds sets knows = tt
-  let_finds old new k l first mid found (Ok x) s n at is uses finds sets knows =
-      let one = finds sets knows in
-      let line = (line_seen kind.Let old n is s at).3 in
-      rw line (one.0, taking.both _ _ (rw line at (uses sets knows)) one.1)
+  let_finds old new k l first mid found result s n at is uses finds sets knows = grind (arith, nat_tests, line_seen)
 
   -- ---- Statements that show
 
@@ -91,10 +88,7 @@ module _ {F : Type 0} (taking : Taking F) where
       → ((sets : List NameSet) → Knows m k sets → OnOk result (taking.gains first found (undefined sets (stmt_names s))))
       → Finds taking m m k k first found result (walk_stmt s)
   unfolding walk_stmt
-  show_finds m k first found result (Let name e) n at no-let no-block uses sets knows = absurd (no-let at.0)
-  show_finds m k first found (Err e') (Show e) n at no-let no-block uses sets knows = tt
-  show_finds m k first found (Ok x) (Show e) n at no-let no-block uses sets knows = (knows, uses sets knows)
-  show_finds m k first found result (tree.Block body) n at no-let no-block uses sets knows = absurd (no-block at.0)
+  show_finds m k first found result s n at no-let no-block uses sets knows = grind (arith, nat_tests)
 
 -- ---- Trees are unchanged
 
@@ -117,14 +111,7 @@ module _ {old new : Memory} {k l : Known} (moves : Moves old new k l) where
         (λ agree readable. (stmt_again has.stmt old new n has.stands agree readable, blocks_same has.stmt old new n agree))
 
     pub stmt_moved : HasStmt new n room (all_blocks new l)
-    stmt_moved = record {
-      stmt = has.stmt;
-      stands = stmt_still.0;
-      good = has.good;
-      light = has.light;
-      few = has.few;
-      apart = stmt_still.1;
-    }
+    stmt_moved = grind (arith, nat_tests, stmt_still)
 
     pub stands_still : (s : Stmt) → StmtAt s old n → StmtAt s new n
     stands_still s at = subst (λ (t : Stmt). StmtAt t new n) (one_stmt has.stmt s old n has.stands at) stmt_still.0
@@ -148,18 +135,7 @@ module _ {old new : Memory} {k l : Known} (moves : Moves old new k l) where
     same_list = list_still.0.1
 
     pub list_moved : ListHasStmts new v room (all_blocks new l)
-    list_moved = let have = has.have in record {
-      held = list_still.0.0;
-      apart = list_still.1;
-      have = subst (λ (l' : List Node). HaveStmts new l' room (all_blocks new l)) (sym same_list) (record {
-        stmts = have.stmts;
-        stand = stmts_still.0;
-        good = have.good;
-        light = have.light;
-        few = have.few;
-        apart = stmts_still.1;
-      });
-    }
+    list_moved = grind (arith, nat_tests, list_still, stmts_still)
 
 -- ---- Blocks
 

@@ -1,5 +1,6 @@
 -- What a definition takes, and what the beginning and the end of a block do.
-use Rattle.std.proofs.Common.{◌≡◌, ℕ, ◌+◌, ◌*◌, ◌≤◌, List, [], ◌∷◌, ◌++◌, length, length-append, ap, ◌∙◌, arith, true, false, Bool, Ok, Err, Some, None}
+use Rattle.std.proofs.lemmas.Bool.Decides.{nat_tests}
+use Rattle.std.proofs.Common.{◌≡◌, ℕ, ◌+◌, ◌*◌, ◌≤◌, List, [], ◌∷◌, length, length-append, ap, ◌∙◌, arith, Bool, Ok, Err, Some, None}
 use Rattle.std.specs.Prelude.{Result, OnErr, map, if◌then◌else◌}
 use Rattle.std.proofs.lemmas.List.Sums.{sum_by-cons}
 use Rattle.arena_chunks.specs.Source.{View}
@@ -41,14 +42,10 @@ size_cons scope outer =
     omega (arith, sum_by-cons (λ (n : ℕ). n) (length scope) (map (λ (s : List (ℕ × ℕ)). length s) outer))
 
 size_push : (b : Bool) (scopes : List (List (ℕ × ℕ))) (id v : ℕ) → size (if b then with_pair scopes id v else scopes) ≤ size scopes + 1
-size_push false scopes id v = omega arith
-size_push true [] id v = omega arith
-size_push true (scope ∷ outer) id v = let pair : List (ℕ × ℕ) = (id, v) ∷ [] in
-    omega (arith, size_cons scope outer, size_cons (scope ++ pair) outer, length-append scope pair)
+size_push b scopes id v = grind (arith, nat_tests, size_cons, length-append)
 
 size_outer : (scopes : List (List (ℕ × ℕ))) → size (outer_of scopes) ≤ size scopes
-size_outer [] = omega arith
-size_outer (scope ∷ outer) = omega (arith, size_cons scope outer)
+size_outer scopes = grind (arith, nat_tests, size_cons)
 
 -- ---- A definition
 

@@ -1,5 +1,6 @@
 -- Walks over statements.
-use Rattle.std.proofs.Common.{◌≡◌, ℕ, ◌+◌, List, [], ◌∷◌, ◌++◌, drop, refl, sym, ap, subst, ◌∙◌, None, Some, Ok, Option, arith, append-nil}
+use Rattle.std.proofs.lemmas.Bool.Decides.{nat_tests}
+use Rattle.std.proofs.Common.{◌≡◌, ℕ, ◌+◌, List, [], ◌∷◌, ◌++◌, drop, refl, sym, ap, subst, None, Some, Ok, Option, arith, append-nil}
 use Rattle.std.specs.Prelude.{slice_get}
 use Rattle.std.proofs.lemmas.List.{append_assoc, drop_all}
 use Rattle.arena_chunks.specs.Memory.{Memory}
@@ -15,7 +16,7 @@ use Rattle.arena_symbols.proofs.Layers.{moves_then}
 use Rattle.tree_rules.specs.Trees.{Stmt, Stmts, NoStmts, Then}
 use Rattle.tree_rules.specs.Trees as tree
 use Rattle.tree_rules.specs.Weights.{weight, weights}
-use Rattle.tree_rules.specs.Report.{NameSet, Walk, walk_stmt, walk}
+use Rattle.tree_rules.specs.Report.{NameSet, walk_stmt, walk}
 use Rattle.tree_rules.proofs.FindingLemmas.{walk_outer}
 use Rattle.tree_nodes.specs.declared.node.Node.{Node}
 use Rattle.arena_tree.specs.TreesAt.{node_item}
@@ -104,11 +105,7 @@ module _ {F : Type 0} (taking : Taking F) {now : Memory} {l : Known} {first befo
 
   halfway_end : left ≡ NoStmts → Knows now l (walk ss sets).known × taking.gains first before (walk ss sets).findings
   unfolding walk
-  halfway_end none =
-      let all = rw none at half.all in (
-        subst (Knows now l) (ap (λ (w : Walk). w.known) all) half.knows,
-        subst (taking.gains first before) (sym (append-nil half.taken) ∙ ap (λ (w : Walk). w.findings) all) half.gained,
-      )
+  halfway_end none = grind (arith, nat_tests, append-nil)
 
 module _ {F : Type 0} (taking : Taking F) {old now : View} {k l : Known} {first before : F} (v : Vec Node) {i : ℕ}
     (walking : Walking taking old now k l first before (vec_list node_item old.memory v) i) where
@@ -123,9 +120,7 @@ module _ {F : Type 0} (taking : Taking F) {old now : View} {k l : Known} {first 
 
     line : (ss : Stmts) (at : StmtsAt ss old.memory (vec_list node_item old.memory v))
         → IsFirst old.memory n (drop (i + 1) (vec_list node_item old.memory v)) (walking.behind ss at).left
-    line ss at = let left = (walking.behind ss at).left in
-        first_left left
-        (subst (StmtsAt left old.memory) (drop_item (vec_list node_item old.memory v) i n there) (walking.behind ss at).stand)
+    line ss at = grind (arith, nat_tests, first_left, drop_item, there)
 
     module _ {new : View} {j : Known} where
       -- What is done, and one statement more, are among all of them.
@@ -158,8 +153,7 @@ module _ {F : Type 0} (taking : Taking F) {old now : View} {k l : Known} {first 
   -- All are done.
   module _ (ss : Stmts) (at : StmtsAt ss old.memory (vec_list node_item old.memory v)) (last : i ≡ v.raw.len) where
     all_behind : (walking.behind ss at).left ≡ NoStmts
-    all_behind = let behind = walking.behind ss at in none_left behind.left old.memory (subst (StmtsAt behind.left old.memory)
-        (drop_all i (vec_list node_item old.memory v) (omega (arith, last, list_len old.memory v))) behind.stand)
+    all_behind = grind (arith, nat_tests, none_left, drop_all, list_len)
 
     pub walking_end : (sets : List NameSet) → Knows old.memory k sets
         → Knows now.memory l (walk ss sets).known × taking.gains first before (walk ss sets).findings

@@ -1,3 +1,4 @@
+use Rattle.std.proofs.lemmas.Bool.Decides.{nat_tests}
 use Rattle.std.proofs.Common.{arith}
 use Rattle.arena_lint.proofs.LintLemmas.{parsed_light, parse_spends, unparsed, checked, unplaced, exhausted, fits}
 use Rattle.arena_lint.proofs.lint.lint_with.Goals as goal
@@ -27,5 +28,4 @@ returns-in-Err-OutOfMemory-clause-other g c = exhausted c.in-Ok.tree c.tree_weig
     (λ trees means. rw c.in-Err-OutOfMemory.field-0-is at (c.in-Err-OutOfMemory.ensures.spends trees means))
 
 pub unreachable-requires : goal.unreachable-requires
-unreachable-requires g c = fits c.in-Ok.tree c.tree_weight.ensures c.requires.unused c.in-Ok.ensures.parses c.in-Ok.ensures.bytes
-    (λ trees means. rw c.in-Err-CapacityOverflow.field-0-is at (c.in-Err-CapacityOverflow.ensures.spends trees means))
+unreachable-requires g c = grind (arith, nat_tests, fits)

@@ -1,25 +1,19 @@
-use Rattle.std.proofs.Common.{[], refl, arith}
+use Rattle.std.proofs.lemmas.Bool.Decides.{nat_tests}
+use Rattle.std.proofs.Common.{arith}
 use Rattle.tree_nodes.specs.declared.node.Kind.TheVariants as kind
 use Rattle.arena_tree.proofs.Layers.{seen}
 use Rattle.arena_lint.proofs.NameLemmas.{name_at, kid_found, kids_found}
 use Rattle.arena_lint.proofs.names.+names.Goals as goal
 
 pub all_names-kids-init : goal.all_names-kids-init
-all_names-kids-init g t c es sets at knows = record {
-  exprs = es;
-  stand = at;
-  taken = [];
-  gained = g.F.TakesFindings.taking.none _;
-  all_is = refl;
-}
+all_names-kids-init g t c es sets at knows = grind (arith, nat_tests)
 
 pub all_names-kids-preserved : goal.all_names-kids-preserved
 all_names-kids-preserved g t c es sets at knows = kid_found g.F.TakesFindings.taking _ c.kids.i c.kid-next.result c.kid-next.ensures.kid
     (λ e stands. c.in_ok-names_in.ensures e sets stands knows) (c.kids.invariant es sets at knows)
 
 pub all_names-returns : goal.all_names-returns
-all_names-returns g t c es sets at knows = kids_found g.F.TakesFindings.taking c.args.list c.kids.i
-    (omega (arith, c.kids-test.false, c.kids.auto.i-end, c.len-i-end.ensures)) (c.kids.invariant es sets at knows)
+all_names-returns g t c es sets at knows = grind (arith, nat_tests, kids_found)
 
 pub names_in-use_name-requires : goal.names_in-use_name-requires
 names_in-use_name-requires g t c = let name = name_at c.requires.tree c.in-Name.is in

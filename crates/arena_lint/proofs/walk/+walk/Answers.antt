@@ -1,5 +1,5 @@
+use Rattle.std.proofs.lemmas.Bool.Decides.{nat_tests}
 use Rattle.std.proofs.Common.{ap, arith}
-use Rattle.arena_tree.specs.Spending.{error_of}
 use Rattle.tree_nodes.specs.declared.node.Kind.TheVariants as kind
 use Rattle.arena_tree.proofs.Layers.{line_seen}
 use Rattle.arena_lint.proofs.SpendingLemmas.{err_takes, takes_exhausted, takes_then, takes_more}
@@ -64,9 +64,4 @@ walk_stmt-returns-in_ok-walk-in-Block g t c = let enters = c.in_ok-list-in-Block
 }
 
 pub walk_stmt-returns-in_default : goal.walk_stmt-returns-in_default
-walk_stmt-returns-in_default g t c = record {
-  moves = moves_none c.requires.known;
-  finds = λ s at. show_finds g.F.TakesFindings.taking c.args.a.now.memory c.args.known.now c.args.found.now c.use_names.new.found
-      c.use_names.result s c.args.node at c.in_default.not-Let c.in_default.not-Block (λ sets knows. c.use_names.ensures.finds s sets at knows);
-  takes = λ s at. takes_exhausted c.args.a.now c.args.known.now (error_of c.use_names.result) c.use_names.ensures.exhausted;
-}
+walk_stmt-returns-in_default g t c = grind (arith, nat_tests, moves_none, show_finds, takes_exhausted)

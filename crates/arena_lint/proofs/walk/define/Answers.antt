@@ -1,5 +1,5 @@
+use Rattle.std.proofs.lemmas.Bool.Decides.{nat_tests}
 use Rattle.std.proofs.Common.{ℕ, List, length, ap, ◌∙◌, arith}
-use Rattle.arena_tree.specs.Spending.{error_of}
 use Rattle.arena_lint.proofs.SpendingLemmas.{err_takes, takes_more, takes_then, takes_exhausted}
 use Rattle.arena_lint.proofs.walk.define.Goals as goal
 
@@ -10,7 +10,4 @@ returns-in_err-kind-clause-takes g c =
     (takes_more _ (omega (arith, ap (λ (t : List ℕ). length t) is)) c.in_err-kind.ensures.takes)
 
 pub returns-clause-takes : goal.returns-clause-takes
-returns-clause-takes g c =
-    let is = c.from_utf8_unchecked-spelled.ensures ∙ c.as_slice.ensures ∙ c.in-Ok.ensures.value ∙ c.read.ensures in
-    takes_more _ (omega (arith, ap (λ (t : List ℕ). length t) is)) (takes_then c.in_ok-kind.ensures.takes
-    (takes_exhausted {weight = 0} c.define_name.new.a c.define_name.new.known (error_of c.give.result) c.give.ensures.exhausted))
+returns-clause-takes g c = grind (arith, nat_tests, takes_more, takes_then, takes_exhausted)
