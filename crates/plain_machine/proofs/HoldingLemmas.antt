@@ -1,5 +1,6 @@
 -- The end of the newest chunk, below which each held block ends.
-use Rattle.std.proofs.Common.{◌≡◌, ℕ, IsTrue, Option, refl, sym, ◌+◌, ◌<◌, ◌≤◌, inl, inr, ap, ◌∙◌, subst, arith, Some, None, Bool, true, false, cond}
+use Rattle.std.proofs.lemmas.Bool.Decides.{nat_tests}
+use Rattle.std.proofs.Common.{◌≡◌, ℕ, IsTrue, Option, refl, sym, ◌+◌, ◌<◌, ◌≤◌, ap, ◌∙◌, subst, arith, Some, None, Bool, true, false, cond}
 use Rattle.std.specs.Ordering.{nat_cmp, eq_by_cmp}
 use Rattle.std.specs.Cmp.{nat_cmp_total}
 use Rattle.std.specs.FinMap as map
@@ -7,8 +8,7 @@ use Rattle.std.specs.Option.{option_map_or}
 use Rattle.std.specs.FinMap.{get-empty, get-insert, get-remove, get-retain_keys, nat_cmp-IsAntisymmetric}
 use Rattle.std.proofs.lemmas.Bool.{cases_eq}
 use Rattle.std.proofs.lemmas.Option.{none-some, same_Some}
-use Rattle.arena_rules.specs.Rounding.{up}
-use Rattle.arena_rules.specs.State.{State, IsValid, cursor_of, top_of, is_place_used}
+use Rattle.arena_rules.specs.State.{State, IsValid, top_of, is_place_used}
 use Rattle.arena_rules.specs.Moves.{dealloc}
 use Rattle.call_rules.specs.Machine.{Held, is_left}
 use Rattle.arena_rules.specs.declared.place.Place.{Place}
@@ -18,10 +18,7 @@ use Rattle.arena_rules.proofs.UsedLemmas.{used_high}
 use Rattle.plain_machine.specs.Holding.{EndBelow}
 
 pub dealloc_top : (state : State) (p size : ℕ) → top_of (dealloc state p size).chunks ≡ top_of state.chunks
-dealloc_top state p size = elim (cases_eq p (cursor_of state.chunks)) [
-  | inl at ↦ ap (λ (s : State). top_of s.chunks) (dealloc_at state p size at) ∙ top_set (up (p + size) state.min_align) state.chunks
-  | inr other ↦ ap (λ (s : State). top_of s.chunks) (dealloc_elsewhere state p size other)
-]
+dealloc_top state p size = grind (arith, nat_tests, cases_eq, dealloc_at, top_set, dealloc_elsewhere)
 
 pub end_none : (top : ℕ) → EndBelow top map.empty
 end_none top name p found some = absurd (none-some p (rw (get-empty nat_cmp name) at found))

@@ -1,5 +1,6 @@
 -- Names that stay in a map.
-use Rattle.std.proofs.Common.{◌≡◌, ℕ, ap, sym, refl, ◌∙◌, Bool, false, cond, Option, Some, None}
+use Rattle.std.proofs.lemmas.Bool.Decides.{nat_tests}
+use Rattle.std.proofs.Common.{arith, ◌≡◌, ℕ, ap, sym, ◌∙◌, Bool, false, cond, Option, None}
 use Rattle.std.specs.Prelude.{filter}
 use Rattle.std.specs.Option.{option_map_or}
 use Rattle.std.specs.Ordering.{nat_cmp}
@@ -25,8 +26,7 @@ module _ {X : Type 0} where
       (λ x same. ap test (sym (nat_cmp-IsAntisymmetric q x same)))))
 
   tested : (p : X → Bool) (o : Option X) → option_filter p o ≡ cond (option_map_or p o false) o None
-  tested p None = refl
-  tested p (Some x) = refl
+  tested p o = grind (arith, nat_tests)
 
   -- the names in a tree whose values pass a test
   pub tree_used : (m n : BTreeMap ℕ X) (test : X → Bool) → IsOrdered nat_cmp m → n.entries ≡ filter (λ e. test e.1) m.entries

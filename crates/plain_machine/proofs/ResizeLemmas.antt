@@ -1,5 +1,6 @@
 -- Blocks that are placed in the newest chunk, or shrink there.
-use Rattle.std.proofs.Common.{◌≡◌, ℕ, ◌+◌, ◌-◌, ◌<◌, ◌≤◌, inl, inr, max, sym, arith, Some, None, Option, IsTrue}
+use Rattle.std.proofs.lemmas.Bool.Decides.{nat_tests}
+use Rattle.std.proofs.Common.{◌≡◌, ℕ, ◌+◌, ◌<◌, ◌≤◌, sym, arith, Some, None, Option, IsTrue}
 use Rattle.std.specs.Prelude.{IfSome}
 use Rattle.std.proofs.lemmas.Bool.{cases_lt}
 use Rattle.arena_rules.specs.Rounding.{is_power}
@@ -34,10 +35,7 @@ place_within state size align (Some p) valid power found = (placed state size al
 -- a block at the cursor ends in the newest chunk
 pub block_top : (state : State) (p size : ℕ) → IsValid state → p ≡ cursor_of state.chunks → (0 < size → p + size ≤ top_of state.chunks)
     → p + size ≤ top_of state.chunks
-block_top state p size valid at end = elim (cases_lt 0 size) [
-  | inl some ↦ end some
-  | inr none ↦ omega (arith, cursor_within state valid)
-]
+block_top state p size valid at end = grind (arith, nat_tests, cases_lt, cursor_within)
 
 -- A block at the cursor may move up, where it ends in the newest chunk.
 pub shrink_moved : (state : State) (block : Place) (size align : ℕ) → IsValid state → IsTrue (is_power align)
@@ -45,12 +43,9 @@ pub shrink_moved : (state : State) (block : Place) (size align : ℕ) → IsVali
     → (0 < block.size → block.addr + block.size ≤ top_of state.chunks)
     → IsValid (with_cursor (block.addr + shrink_step state block.size size align) state)
 shrink_moved state block size align valid power at end =
-    valid_set state (block.addr + shrink_step state block.size size align) valid (omega (arith, cursor_within state valid))
-    (omega (arith, down_le (block.size - size) (max align state.min_align), block_top state block.addr block.size valid at end))
-    (step_aligned state block size align valid power at)
+    grind (arith, nat_tests, valid_set, cursor_within, down_le, block_top, step_aligned)
 
 -- a block that was placed at p ends at `top` or below, if one at p does
 pub ends_within : (size p top : ℕ) (told : Option (Option ℕ)) → IfSome told (λ answer. answer ≡ Some p) → (0 < size → p + size ≤ top)
     → EndsWithin size told top
-ends_within size p top None is end = tt
-ends_within size p top (Some answer) is end = rw is end
+ends_within size p top told is end = grind (arith, nat_tests)

@@ -1,4 +1,5 @@
 -- A run, call by call.
+use Rattle.std.proofs.lemmas.Bool.Decides.{nat_tests}
 use Rattle.std.proofs.Common.{◌≡◌, ◌≢◌, ℕ, suc, ◌<◌, ◌≤◌, arith, length, drop, get_or, drop-cons, add-one, ◌+◌, refl, sym, ap, ◌∙◌, List, [], ◌∷◌, ◌++◌, append_assoc, Some, None, Option}
 use Rattle.std.proofs.lemmas.List.{drop_all, append-nil}
 use Rattle.std.specs.Option.{option_map, option_and_then}
@@ -45,9 +46,7 @@ pub run_none : (replies : List Reply) (m : Machine) (calls : List Call) (ks : Li
     → i < length calls → length calls ≡ length ks → call ≡ get_or calls i call → step call (get_or ks i 0) m ≡ None
     → run_after replies m (drop i calls) (drop i ks) ≡ None
 unfolding run_from
-run_none replies m calls ks i call low even is none =
-    let here = is_next calls ks i call low even is in
-    rw (here.first_call, here.first_number, none) refl
+run_none replies m calls ks i call low even is none = grind (arith, nat_tests, is_next)
 
 -- no call is left
 pub run_done : (replies : List Reply) (m : Machine) (calls : List Call) (ks : List ℕ) (i : ℕ) → length calls ≤ i → length calls ≡ length ks

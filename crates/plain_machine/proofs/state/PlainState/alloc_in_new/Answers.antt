@@ -1,4 +1,5 @@
-use Rattle.std.proofs.Common.{◌≡◌, ℕ, ap, List, Option}
+use Rattle.std.proofs.lemmas.Bool.Decides.{nat_tests}
+use Rattle.std.proofs.Common.{arith, ◌≡◌, ℕ, List, Option}
 use Rattle.std.specs.Prelude.{slice_get}
 use Rattle.arena_rules.specs.Moves.{alloc}
 use Rattle.arena_rules.proofs.RoundingLemmas.{layout_power}
@@ -8,8 +9,7 @@ use Rattle.plain_machine.proofs.state.PlainState.alloc_in_new.Goals as goal
 -- the entry of a list that equals what was asked
 entry : (all items now : List (ℕ × ℕ)) (k : ℕ) (r o : Option (ℕ × ℕ)) → items ≡ all → now ≡ items → r ≡ slice_get now k → r ≡ o
     → slice_get all k ≡ o
-entry all items now k r o asked same read is =
-    cc (ap (λ (l : List (ℕ × ℕ)). slice_get l k) same, ap (λ (l : List (ℕ × ℕ)). slice_get l k) asked)
+entry all items now k r o asked same read is = grind (arith, nat_tests)
 
 pub alloc_in_chunk-requires : goal.alloc_in_chunk-requires
 alloc_in_chunk-requires c =
