@@ -1,12 +1,12 @@
 -- What one turn of a loop does to lists, sets and runs.
 use Rattle.std.proofs.Common.{◌≡◌, ℕ, suc, ◌+◌, ◌-◌, ◌*◌, ◌<◌, ◌≤◌, refl, sym, ap, ◌∙◌, arith, Bool, true, false, Result, Ok, Err, List, [], ◌∷◌, ◌++◌, length, drop, take, get_or, drop-cons, add-one, append_assoc}
-use Rattle.std.specs.Prelude.{OnErr, nat_lt, ◌==◌, if◌then◌else◌}
+use Rattle.std.specs.Prelude.{OnErr, ◌==◌, if◌then◌else◌}
 use Rattle.std.specs.List.{filter, list_any, range_with_len}
 use Rattle.std.proofs.lemmas.Bool.Decides.{nat_tests}
 use Rattle.std.proofs.lemmas.List.{append-nil, take_more}
 use Rattle.arena_rules.specs.Bits.{Set, members}
 use Rattle.arena_rules.specs.PrintedBits.{has_byte, highest, digits, lower, printed}
-use Rattle.script_rules.specs.Objects.{Bits, Objects, bind, united}
+use Rattle.script_rules.specs.Objects.{Objects}
 use Rattle.script_rules.specs.Machine.{Ran, step, run_from, ran_on}
 use Rattle.script_rules.specs.declared.commands.Command.{Command}
 use Rattle.script_rules.specs.declared.commands.ScriptReply.{ScriptReply}
@@ -50,16 +50,6 @@ pub some_none : (p : ℕ → Bool) (from to : ℕ) → to ≤ from → some_from
 some_none p from to h = ap (list_any p) (range_none from to h)
 
 -- ---- Unions
-
-pub united_with : (end : ℕ) (bits : Bits) (e : ℕ × Unit {0}) (more : Bits) → e.0 < end
-    → united end bits (e ∷ more) ≡ united end (bind bits e.0 tt) more
-united_with end bits e more h =
-    let t : nat_lt e.0 end ≡ true = grind (arith, nat_tests) in ap (λ b. united end (if b then bind bits e.0 tt else bits) more) t
-
-pub united_without : (end : ℕ) (bits : Bits) (e : ℕ × Unit {0}) (more : Bits) → end ≤ e.0
-    → united end bits (e ∷ more) ≡ united end bits more
-united_without end bits e more h =
-    let t : nat_lt e.0 end ≡ false = grind (arith, nat_tests) in ap (λ b. united end (if b then bind bits e.0 tt else bits) more) t
 
 -- ---- Printed forms
 
@@ -105,9 +95,7 @@ printed_none words set h = let t : (words == 0) ≡ true = grind (arith, nat_tes
 pub printed_some : (words top : ℕ) (set : Set) → 0 < words → top ≡ highest set (8 * words)
     → printed words set ≡ digits set (8 * top) 8 ++ lower set top
 unfolding printed
-printed_some words top set h e =
-    let t : (words == 0) ≡ false = grind (arith, nat_tests) in
-    rw t (ap (λ n. digits set (8 * n) 8 ++ lower set n) (sym e))
+printed_some words top set h e = grind (arith, nat_tests)
 
 -- ---- Runs
 
@@ -119,24 +107,15 @@ pub run_more : (ran : Ran) (c : Command) (rest : List Command) → ran_on ran (c
       objects = (step c ran.objects).objects;
     }) rest
 unfolding run_from
-run_more ran c rest =
-    let a = step c ran.objects in
-    let more = run_from a.objects rest in
-    ap (λ rs. record { replies = rs; costs = ran.costs ++ a.cost ∷ more.costs; objects = more.objects })
-    (sym (append_assoc ran.replies (a.reply ∷ []) more.replies))
-    ∙ ap (λ ns. record { replies = (ran.replies ++ a.reply ∷ []) ++ more.replies; costs = ns; objects = more.objects })
-    (sym (append_assoc ran.costs (a.cost ∷ []) more.costs))
+run_more ran c rest = grind (arith, nat_tests, append_assoc)
 
 pub run_begun : (objects : Objects) (commands : List Command) {replies : List ScriptReply} {costs : List ℕ} → replies ≡ [] → costs ≡ []
     → ran_on (record { replies = replies; costs = costs; objects = objects }) commands ≡ run_from objects commands
-run_begun objects commands none free =
-    λ i. ran_on (record { replies = none i; costs = free i; objects = objects }) commands
+run_begun objects commands none free = grind (arith, nat_tests)
 
 pub run_none : (ran : Ran) → ran_on ran [] ≡ ran
 unfolding run_from
-run_none ran =
-    ap (λ rs. record { replies = rs; costs = ran.costs ++ []; objects = ran.objects }) (append-nil ran.replies)
-    ∙ ap (λ ns. record { replies = ran.replies; costs = ns; objects = ran.objects }) (append-nil ran.costs)
+run_none ran = grind (arith, nat_tests, append-nil)
 
 -- the objects after the first commands, and after one more
 pub first_none : (objects : Objects) (commands : List Command) → objects ≡ (run_from objects (take 0 commands)).objects

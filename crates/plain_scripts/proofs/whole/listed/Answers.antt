@@ -1,12 +1,7 @@
-use Rattle.std.proofs.Common.{ℕ, List, [], ◌∷◌, ap, sym, ◌∙◌, append-nil}
-use Rattle.std.specs.List.{flat_map}
+use Rattle.std.proofs.lemmas.Bool.Decides.{nat_tests}
+use Rattle.std.proofs.Common.{arith, append-nil}
 use Rattle.call_rules.proofs.MapLemmas.{tree_entries}
 use Rattle.plain_scripts.proofs.whole.listed.Goals as goal
 
 pub returns : goal.returns
-returns c =
-    let gives = c.into_iter-key-iterator.ensures.into_iter_gives in
-    let all = gives.0 ∙ sym (tree_entries c.pairs.inside.values.entries gives.5) in
-    rw (← c.pairs.view_is)
-    (c.from_vec.ensures ∙ sym (append-nil c.loop-key.all.items) ∙ rw c.in-None.ensures.steps.0 at c.loop-key.invariant
-    ∙ ap (λ (es : List (ℕ × ℕ)). flat_map (λ (e : ℕ × ℕ). e.0 ∷ e.1 ∷ []) es) all)
+returns c = grind (arith, nat_tests, tree_entries, append-nil)

@@ -1,3 +1,4 @@
+use Rattle.std.proofs.lemmas.Bool.Decides.{nat_tests}
 use Rattle.std.proofs.Common.{◌≡◌, ◌+◌, ◌++◌, [], ◌∷◌, ◌∙◌, ap, sym, arith, drop}
 use Rattle.std.proofs.lemmas.Grind.{common_steps}
 use Rattle.std.proofs.lemmas.List.{drop_all}
@@ -31,12 +32,10 @@ loop-command-preserved c =
     }
 
 pub returns-in_err-push-clause-err : goal.returns-in_err-push-clause-err
-returns-in_err-push-clause-err c = stops_after c.args.self.now c.args.commands.now c.loop-command.command-index c.command-item.result
-    c.loop-command-test.true c.command-item.is c.loop-command.invariant.first (ap (λ (a : Answer). a.objects) c.in_ok-answered.ensures.ok) _
+returns-in_err-push-clause-err c = grind (arith, nat_tests, stops_after)
 
 pub returns-in_err-push-2-clause-err : goal.returns-in_err-push-2-clause-err
-returns-in_err-push-2-clause-err c = stops_after c.args.self.now c.args.commands.now c.loop-command.command-index c.command-item.result
-    c.loop-command-test.true c.command-item.is c.loop-command.invariant.first (ap (λ (a : Answer). a.objects) c.in_ok-answered.ensures.ok) _
+returns-in_err-push-2-clause-err c = grind (arith, nat_tests, stops_after)
 
 pub returns-clause-ok : goal.returns-clause-ok
 returns-clause-ok c =
