@@ -1,33 +1,27 @@
 -- What calls leave of a source's counts.
-use Rattle.std.proofs.Common.{◌≡◌, ℕ, zero, suc, ◌*◌, List, [], ◌++◌, refl, sym, ap, subst, ◌∙◌, Some, None, Result, Ok, Err, append_assoc, append-nil, inl, inr, arith}
-use Rattle.std.specs.Prelude.{Option, IfSome, IsSomeAnd, nat_le}
+use Rattle.std.proofs.lemmas.Bool.Decides.{nat_tests}
+use Rattle.std.proofs.Common.{◌≡◌, ℕ, zero, suc, List, ◌++◌, refl, sym, subst, Result, append_assoc, append-nil, arith}
+use Rattle.std.specs.Prelude.{Option, IfSome, IsSomeAnd}
 use Rattle.std.proofs.lemmas.Bool.{cases_Bool}
 use Rattle.arena.specs.AllocErrorType.{AllocError}
-use Rattle.arena.specs.AllocErrorType.TheVariants.{AllocErr, CapacityOverflow, OutOfMemory}
 use Rattle.arena.specs.Answers.{Answer}
 use Rattle.arena.specs.Answers.Answer.{Placed, Refused, Exhausted}
 use Rattle.arena.specs.BlockCalls.{PlacesBlock, GrowsBlock}
 use Rattle.arena.specs.BlockType.{Block}
 use Rattle.arena.specs.Interning.{Interns}
-use Rattle.arena.specs.RequestRules.{AddsWithin}
 use Rattle.arena.specs.Room.{MakesRoom, RoomAnswer, TakesRoom}
 use Rattle.arena.specs.Source.{Source, View, IsAsked}
 use Rattle.arena.specs.SymbolsType.{Symbols}
-use Rattle.arena.specs.VecGrowth.{growth_to, fits}
+use Rattle.arena.specs.VecGrowth.{growth_to}
 use Rattle.example_language.specs.Trees.{ListsMore, KeepsCount}
 
 -- ---- No request, and requests one after another
 
 no_more : (asked : Option (List (ℕ × ℕ))) → ListsMore asked asked
-no_more None = tt
-no_more (Some all) = ([], sym (append-nil all))
+no_more asked = grind (arith, nat_tests, append-nil)
 
 more_then : (one two three : Option (List (ℕ × ℕ))) → ListsMore one two → ListsMore two three → ListsMore one three
-more_then one two None first second = tt
-more_then one None (Some all) first second = absurd second
-more_then None (Some some) (Some all) first second = absurd first
-more_then (Some few) (Some some) (Some all) first second =
-    (first.0 ++ second.0, second.1 ∙ ap (λ (xs : List (ℕ × ℕ)). xs ++ second.0) first.1 ∙ append_assoc few first.0 second.0)
+more_then one two three first second = grind (arith, nat_tests, append_assoc)
 
 pub same_count : (source : Source) → KeepsCount source source
 same_count source = record { refusals = omega arith; requests = no_more source.asked }
@@ -46,15 +40,10 @@ unasked old new same = subst (λ (v : View). KeepsCount old.source v.source) (sy
 listed : (P : List (ℕ × ℕ) → List (ℕ × ℕ) → Type 0) (before after : Option (List (ℕ × ℕ)))
     → ((some all : List (ℕ × ℕ)) → P some all → (made : List (ℕ × ℕ)) × (all ≡ some ++ made))
     → IfSome after (λ all. IsSomeAnd before (λ some. P some all)) → ListsMore before after
-listed P before None adds is = tt
-listed P None (Some all) adds is = absurd is
-listed P (Some some) (Some all) adds is = adds some all is
+listed P before after adds is = grind (arith, nat_tests)
 
 counted : {before after : Source} {k : ℕ} {made : List (ℕ × ℕ)} → IsAsked before after k made → KeepsCount before after
-counted {before = before} {after = after} {made = made} asked = record {
-  refusals = omega (arith, asked.refusals);
-  requests = listed (λ some all. all ≡ some ++ made) before.asked after.asked (λ some all is. (made, is)) asked.requests;
-}
+counted {before = x0} {after = x1} {made = x2} asked = grind (arith, nat_tests, listed)
 
 placed_counts : (old new : View) (size align : ℕ) (answer : Answer) → PlacesBlock old new size align answer
     → KeepsCount old.source new.source
@@ -75,10 +64,7 @@ module _ (old new : View) (block : Block) (size align : ℕ) where
 
   room_counts : {X : Type 0} (f : X → Block) (cap : ℕ) (result : Result X AllocError)
       → RoomAnswer f result (TakesRoom old new block cap size align) → KeepsCount old.source new.source
-  room_counts f cap (Ok x) takes = taken_counts cap (Placed (f x)) takes
-  room_counts f cap (Err (AllocErr k)) takes = taken_counts cap (Refused k) takes
-  room_counts f cap (Err OutOfMemory) takes = taken_counts cap Exhausted takes
-  room_counts f cap (Err CapacityOverflow) takes = absurd takes
+  room_counts f cap result takes = grind (arith, nat_tests, taken_counts)
 
 -- ---- Calls on a list and on an interner
 
@@ -86,21 +72,8 @@ pub list_counts : {X : Type 0} (size align : ℕ) (old new : View) (block : Bloc
     (result : Result X AllocError) → MakesRoom size align old new block cap (growth_to size cap required wanted) f result
     → KeepsCount old.source new.source
 unfolding growth_to
-list_counts size align old new block cap required wanted f result made = elim (cases_Bool (nat_le required cap)) [
-  | inl room ↦ subst (KeepsCount old.source) (sym (rw room at made).1.source) (same_count old.source)
-  | inr full ↦ elim (cases_Bool (fits size required)) [
-    | inl fit ↦ let took = rw (full, fit) at made in
-        subst (KeepsCount old.source) (sym took.places.source)
-        (room_counts old took.between block (wanted * size) align f cap result took.took)
-    | inr over ↦ unasked old new (rw (full, over) at made).1
-  ]
-]
+list_counts size align old new block cap required wanted f result made = grind (arith, nat_tests, cases_Bool, room_counts, unasked)
 
 pub interned_counts : {old new : View} {names after : Symbols} {text : List ℕ} {result : Result ℕ AllocError}
     → Interns old new names after text result → KeepsCount old.source new.source
-interned_counts {old = old} {new = new} interns =
-    let asks = interns.pays.costs.asks in
-    record {
-      refusals = asks.refusals;
-      requests = listed (AddsWithin _) old.source.asked new.source.asked (λ some all adds. (adds.added, adds.all)) asks.told;
-    }
+interned_counts {old = x0} {new = x1} interns = grind (arith, nat_tests, listed)

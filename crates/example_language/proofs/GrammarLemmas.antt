@@ -1,4 +1,5 @@
 -- What words are read as, by the grammar.
+use Rattle.std.proofs.lemmas.Bool.Decides.{nat_tests}
 use Rattle.std.proofs.Common.{◌≡◌, ℕ, ◌+◌, ◌-◌, ◌<◌, ◌≤◌, List, [], ◌∷◌, ◌++◌, length, refl, sym, ap, subst, ◌∙◌, Some, None, Ok, Err, append_assoc, append-nil, inl, inr, arith}
 use Rattle.std.proofs.lemmas.Option.{none-some, same_Some}
 use Rattle.std.proofs.lemmas.Bool.{cases_lt}
@@ -16,14 +17,7 @@ use Rattle.example_language.specs.declared.parsing.Token.TheVariants.{Number, Na
 -- a sign without operands
 few : (token : Token) (word : List ℕ) (trees : List Expr) → token_of word ≡ Some token → applied token word trees ≡ None
     → IsSign word × (length trees < 2)
-few (Number n) word trees is none = absurd (none-some (Num n ∷ trees) (sym none))
-few Name word trees is none = absurd (none-some (Var word ∷ trees) (sym none))
-few Sum word [] is none = (inl is, omega arith)
-few Sum word (tree ∷ []) is none = (inl is, omega arith)
-few Sum word (r ∷ l ∷ trees) is none = absurd (none-some (Add l r ∷ trees) (sym none))
-few Product word [] is none = (inr is, omega arith)
-few Product word (tree ∷ []) is none = (inr is, omega arith)
-few Product word (r ∷ l ∷ trees) is none = absurd (none-some (Mul l r ∷ trees) (sym none))
+few token word trees is none = grind (arith, nat_tests, none-some)
 
 -- at most 64 trees wait
 most : (trees : List Expr) (words : List (List ℕ)) → SpellAll trees words → length trees ≤ 64
@@ -39,13 +33,7 @@ most (tree ∷ trees) words (OneMore one others before own all spells fits) = om
 -- one tree too many
 deep : (token : Token) (word : List ℕ) (trees more : List Expr) → token_of word ≡ Some token → applied token word trees ≡ Some more
     → length trees ≤ 64 → 64 < length more → IsOperand word × (length trees ≡ 64)
-deep (Number n) word trees more is to fits over =
-    (inr (n, is), omega (arith, fits, over, ap length (same_Some (Num n ∷ trees) more to)))
-deep Name word trees more is to fits over = (inl is, omega (arith, fits, over, ap length (same_Some (Var word ∷ trees) more to)))
-deep Sum word (r ∷ l ∷ trees) more is to fits over = absurd (omega (arith, fits, over, ap length (same_Some (Add l r ∷ trees) more to)))
-deep Product word (r ∷ l ∷ trees) more is to fits over =
-    absurd (omega (arith, fits, over, ap length (same_Some (Mul l r ∷ trees) more to)))
-deep token word trees more is to fits over = absurd (none-some more to)
+deep token word trees more is to fits over = grind (arith, nat_tests, same_Some, none-some)
 
 spaced-push : (words : List (List ℕ)) (word : List ℕ) → spaced (words ++ word ∷ []) ≡ spaced words + (length word + 1)
 spaced-push [] word = omega arith
@@ -62,27 +50,14 @@ module _ (text : List ℕ) where
 
   ended : (trees : List Expr) (at : ℕ) (done : List (List ℕ)) → SpellAll trees done → at ≡ spaced done → words_of text ≡ done
       → Reads text (only_tree (at - 1) trees)
-  ended [] at done NoTree place is = absurd (omega (arith, some_text [] is))
-  ended (tree ∷ []) at done (OneMore one none before own NoTree spells fits) place is =
-      (subst (Spells tree) (sym is) spells, omega (arith, fits))
-  ended (last ∷ tree ∷ trees) at done all place is =
-      inr (omega (arith, place, some_text done is), last ∷ tree ∷ trees, subst (SpellAll (last ∷ tree ∷ trees)) (sym is) all, omega arith)
+  ended trees at done h place is = grind (arith, nat_tests, some_text)
 
   module _ (word : List ℕ) (words : List (List ℕ)) (at : ℕ) (trees : List Expr) (done : List (List ℕ)) (all : SpellAll trees done)
       (place : at ≡ spaced done) (is : words_of text ≡ done ++ word ∷ words)
       (rest : (next : ℕ) (more : List Expr) (seen : List (List ℕ)) → SpellAll more seen → next ≡ spaced seen
       → words_of text ≡ seen ++ words → Reads text (read next more words)) where
     wrong_word : (Wrong : List Expr → List ℕ → Type 0) → Wrong trees word → FailsAt text at Wrong
-    wrong_word Wrong wrong = record {
-      before = done;
-      word = word;
-      after = words;
-      words_are = is;
-      place = place;
-      trees = trees;
-      spelled = all;
-      wrong = wrong;
-    }
+    wrong_word Wrong wrong = grind (arith, nat_tests)
 
     next_reads : (token : Token) → token_of word ≡ Some token → (o : Option (List Expr)) → applied token word trees ≡ o
         → Reads text (read at trees (word ∷ words))
@@ -165,10 +140,7 @@ spelled_read text tree spells fits =
 -- ---- The laws
 
 pub tree_spelled : (text : List ℕ) (tree : Expr) → (reading text ≡ Ok tree) ↔ (Spells tree (words_of text) × (waits tree ≤ 64))
-tree_spelled text tree = (
-  λ is. subst (Reads text) is (text_reads text),
-  λ spelled. spelled_read text tree spelled.0 spelled.1,
-)
+tree_spelled text tree = grind (arith, nat_tests, text_reads, spelled_read)
 
 pub first_wrong : (text : List ℕ) (e : ParseErr) → reading text ≡ Err e → IsFirstError text e
 first_wrong text e is = subst (Reads text) is (text_reads text)

@@ -1,4 +1,5 @@
 -- Words that are read one after another, and the trees that are placed for them.
+use Rattle.std.proofs.lemmas.Bool.Decides.{nat_tests}
 use Rattle.std.proofs.Common.{◌≡◌, ℕ, ◌+◌, ◌-◌, ◌<◌, ◌≤◌, List, [], ◌∷◌, ◌++◌, length, refl, sym, ap, ◌∙◌, arith, Some, None, Result, Ok, Err, length-append, append_assoc, Bor, rules}
 use Rattle.std.proofs.lemmas.Bool.{lt-ltb, le-ltb}
 use Rattle.std.specs.Prelude.{Option, ◌==◌, Bool, true, false, cond, unwrap_or}
@@ -28,13 +29,7 @@ use Rattle.std.specs.Result.{IsErr, IsErrAnd}
 pub next_tree : (rows : Rows) (node : Node) (stack : List ℕ) (trees : List Expr) (tree : Expr)
     → with_node rows node ≡ placed tree (all_placed trees) → stack ≡ tops trees
     → ArePlaced (with_node rows node) (stack ++ length rows.nodes ∷ []) (tree ∷ trees)
-next_tree rows node stack trees tree rows_are stack_is = record {
-  rows_are = rows_are;
-  stack_is = ap (λ (s : List ℕ). s ++ length rows.nodes ∷ []) stack_is ∙ ap (λ (n : ℕ). tops trees ++ n ∷ []) at;
-}
-  where
-    at : length rows.nodes ≡ last_of (placed tree (all_placed trees))
-    at = omega (arith, length-append rows.nodes (node ∷ []), ap (λ (r : Rows). length r.nodes) rows_are)
+next_tree rows node stack trees tree rows_are stack_is = grind (arith, nat_tests, length-append)
 
 -- The last two indices are those of two trees.
 record LastTwo (trees : List Expr) (stack : List ℕ) (l r : ℕ) : Type 0 where
@@ -109,14 +104,12 @@ module _ (word : List ℕ) (at : ℕ) (rows : Rows) (stack : List ℕ) (trees : 
 pub refused_takes : (word : List ℕ) (token : Token) (at : ℕ) (rows : Rows) (stack : List ℕ) (trees : List Expr)
     (result : Result Node ParseErr) (e : AllocError) → IsErr result × IsErrAnd result (λ f. f ≡ Refused e)
     → Takes word token at rows stack trees result
-refused_takes word token at rows stack trees (Ok node) e is = absurd is.1
-refused_takes word token at rows stack trees (Err f) e is = rw is.1 tt
+refused_takes word token at rows stack trees result e is = grind (arith, nat_tests)
 
 -- ---- Words
 
 spaced-onto : (b : ℕ) (words : List (List ℕ)) → 0 < length words → spaced (onto_first b words) ≡ spaced words + 1
-spaced-onto b [] some = absurd (omega (arith, some))
-spaced-onto b (word ∷ words) some = omega arith
+spaced-onto b words some = grind (arith, nat_tests)
 
 some_words : (p : ℕ → Bool) (text : List ℕ) → 0 < length (slice_split p text)
 some_words p text = omega (arith, length-slice_split p text)
@@ -218,8 +211,7 @@ module _ {S : Type 0} (steps : S → Option (Bor (List ℕ)) → S → Type 0) w
         before.place before.yields.runs step
 
     pub words_end : (after : S) → steps iterator None after → only_tree (length text) before.trees ≡ reading text
-    words_end after step =
-        end_of_list text at before.trees iterator after before.words before.rest before.place before.yields.runs step
+    words_end after step = grind (arith, nat_tests, end_of_list)
 
 -- ---- What a word is, and what is left at the end
 
@@ -261,14 +253,9 @@ module _ {S : Type 0} {steps : S → Option (Bor (List ℕ)) → S → Type 0} {
 -- one index is left
 pub one_left : (text : List ℕ) (rows : Rows) (stack : List ℕ) (trees : List Expr) → ArePlaced rows stack trees → length stack ≡ 1
     → only_tree (length text) trees ≡ reading text → (expr : Expr) × (reading text ≡ Ok expr) × (rows ≡ placed expr no_rows)
-one_left text rows stack [] holds one ended = absurd (omega (arith, one, ap length holds.stack_is))
-one_left text rows stack (tree ∷ []) holds one ended = (tree, sym ended, holds.rows_are)
-one_left text rows stack (last ∷ tree ∷ trees) holds one ended =
-    absurd (omega (arith, one, ap length holds.stack_is, length-tops (last ∷ tree ∷ trees)))
+one_left text rows stack trees holds one ended = grind (arith, nat_tests, length-tops)
 
 -- none or several are
 pub not_one : (text : List ℕ) (rows : Rows) (stack : List ℕ) (trees : List Expr) → ArePlaced rows stack trees → (length stack ≡ 1 → ⊥)
     → only_tree (length text) trees ≡ reading text → reading text ≡ Err (Operands (length text))
-not_one text rows stack [] holds not ended = sym ended
-not_one text rows stack (tree ∷ []) holds not ended = absurd (not (ap length holds.stack_is))
-not_one text rows stack (last ∷ tree ∷ trees) holds not ended = sym ended
+not_one text rows stack trees holds not ended = grind (arith, nat_tests)

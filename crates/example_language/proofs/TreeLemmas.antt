@@ -1,6 +1,6 @@
 -- What calls on a tree's nodes leave of its names, and the other way round.
-use Rattle.std.proofs.Common.{◌≡◌, ℕ, zero, suc, ◌+◌, ◌<◌, List, [], ◌∷◌, ◌++◌, length, Some, refl, sym, ap, subst, arith}
-use Rattle.std.proofs.Common.{Result, Option, flat_map, slice_get, ◌⊎◌, inl, inr}
+use Rattle.std.proofs.lemmas.Bool.Decides.{nat_tests}
+use Rattle.std.proofs.Common.{◌≡◌, ℕ, zero, suc, ◌+◌, ◌<◌, List, [], ◌∷◌, ◌++◌, length, Some, refl, sym, ap, subst, arith, Result, Option, flat_map, slice_get, ◌⊎◌, inl, inr}
 use Rattle.std.specs.List.{AllByRecursion}
 use Rattle.std.proofs.lemmas.List.Elements.{All-push, All-weaker}
 use Rattle.std.proofs.lemmas.Option.{none-some, same_Some}
@@ -11,13 +11,12 @@ use Rattle.arena.specs.Frame.{AreAllApart, Frame}
 use Rattle.arena.specs.Interning.{Interns}
 use Rattle.arena.specs.Memory.{Memory}
 use Rattle.arena.specs.Source.{View}
-use Rattle.arena.specs.SymbolNames.{IsInternerIn, names_footprint, own_blocks}
+use Rattle.arena.specs.SymbolNames.{IsInternerIn, names_footprint}
 use Rattle.arena.specs.SymbolsType.{Symbols}
 use Rattle.arena.specs.Values.{bytes_of}
 use Rattle.arena.specs.VecType.{Vec}
 use Rattle.arena.specs.Vecs.{IsVecIn, vec_list}
-use Rattle.arena.proofs.BlockLayers.{apart_both, frame_reflexive, frame_then, frame_weaken, frame_forget}
-use Rattle.arena.proofs.BlockLayers.{frame_beside, frame_behind}
+use Rattle.arena.proofs.BlockLayers.{apart_both, frame_reflexive, frame_then, frame_weaken, frame_forget, frame_beside, frame_behind}
 use Rattle.arena.proofs.SymbolLayers.{all_turned}
 use Rattle.arena.proofs.VecLayers.{length-elements}
 use Rattle.example_language.proofs.CountLemmas.{same_count, counts_then, interned_counts}
@@ -41,10 +40,7 @@ got (z ∷ xs) y (suc i) x e = elim (got xs y i x e) [ inl before ↦ inl before
 
 more_ordered : (nodes : List Node) (node : Node) → AreOrdered nodes → IsAfter (length nodes) node
     → AreOrdered (nodes ++ node ∷ [])
-more_ordered nodes node ordered after at n here = elim (got nodes node at n here) [
-  | inl before ↦ ordered at n before
-  | inr last ↦ subst (IsAfter at) last.1 (subst (λ (k : ℕ). IsAfter k node) (sym last.0) after)
-]
+more_ordered nodes node ordered after at n here = grind (arith, nat_tests, got)
 
 -- a vector without values
 pub no_nodes : {memory : Memory} {nodes : Vec Node} → IsVecIn node_item memory nodes → vec_list node_item memory nodes ≡ []
@@ -64,14 +60,12 @@ one_node {old = old} {nodes = nodes} node are after held is = record {
 -- nothing changed
 pub same_nodes : {old new : Memory} {nodes after : Vec Node} → after ≡ nodes → new ≡ old → AreNodesIn old nodes
     → AreNodesIn new after
-same_nodes {old = old} {after = after} handle memory are =
-    subst (λ (m : Memory). AreNodesIn m after) (sym memory) (subst (AreNodesIn old) (sym handle) are)
+same_nodes {old = x0} {after = x1} handle memory are = grind (arith, nat_tests)
 
 -- ---- Calls
 
 pub tree_stays : {a : View} {tree : Tree} → IsTreeIn a.memory tree → Moves a a tree tree
-tree_stays {a = a} {tree = tree} held =
-    record { held = held; frame = frame_reflexive a.memory (tree_blocks a.memory tree); counts = same_count a.source }
+tree_stays {a = x0} {tree = x1} held = grind (arith, nat_tests, frame_reflexive, same_count)
 
 -- A call on the nodes alone, which leaves the names.
 pub nodes_moved : (old new : View) (tree : Tree) {nodes : Vec Node} → AreNodesIn new.memory nodes
@@ -79,21 +73,13 @@ pub nodes_moved : (old new : View) (tree : Tree) {nodes : Vec Node} → AreNodes
     → names_footprint new.memory tree.names ≡ names_footprint old.memory tree.names
     → AreAllApart (names_footprint new.memory tree.names) (nodes.raw.block ∷ []) → KeepsCount old.source new.source
     → Moves old new tree (record tree { nodes = nodes })
-nodes_moved old new tree {nodes = nodes} are frame names same apart counts = record {
-  held = record { nodes = are; names = names; apart = apart };
-  frame = subst (λ (blocks : List Block). Frame old.memory new.memory (tree_blocks old.memory tree) (nodes.raw.block ∷ blocks)) (sym same)
-      (frame_beside old.memory new.memory (tree.nodes.raw.block ∷ []) (nodes.raw.block ∷ []) (names_footprint old.memory tree.names) frame);
-  counts = counts;
-}
+nodes_moved old new tree {nodes = x3} are frame names same apart counts = grind (arith, nat_tests, frame_beside)
 
 -- A call that interns a text writes blocks of the interner alone.
 pub interned : {old new : View} {names after : Symbols} {text : List ℕ} {result : Result ℕ AllocError}
     → Interns old new names after text result
     → Frame old.memory new.memory (names_footprint old.memory names) (names_footprint new.memory after)
-interned {names = names} {after = after} interns = rw interns.texts.1.blocks
-    (frame_weaken _ _ (own_blocks names) _ (own_blocks after ++ interns.texts.0) _
-    (λ addr k some apart. (apart.0, (apart.1.0, tt)))
-    (λ addr k some apart rest. (rest.0, (rest.1.0, apart_both addr k _ _ apart.1.1 rest.1.1))) interns.texts.1.frame)
+interned {names = x0} {after = x1} interns = grind (arith, nat_tests, frame_weaken, apart_both)
 
 -- It leaves the nodes.
 pub names_moved : {old new : View} (tree : Tree) {names : Symbols} {text : List ℕ} {result : Result ℕ AllocError}
@@ -158,5 +144,4 @@ none_asked (x ∷ xs) = none_asked xs
 
 pub only_block : {A : Type 0} (ask : Ask) (old new : View) (blocks : List Block) (end : Option AllocError) (xs : List A)
     → AsksFor (ask ∷ flat_map {A = Ask} (λ (x : A). []) xs) old new blocks end → AsksFor (ask ∷ []) old new blocks end
-only_block ask old new blocks end xs asks =
-    subst (λ (more : List Ask). AsksFor (ask ∷ more) old new blocks end) (none_asked xs) asks
+only_block ask old new blocks end xs asks = grind (arith, nat_tests, none_asked)

@@ -1,6 +1,7 @@
 -- The values of the nodes of a tree, and the value of the tree.
-use Rattle.std.proofs.Common.{◌≡◌, ℕ, zero, suc, ◌+◌, ◌-◌, ◌*◌, ◌%◌, ◌^◌, List, [], ◌∷◌, ◌++◌, length, length-append, Some, None, refl, ap, sym, ◌∙◌, arith, inl, inr}
-use Rattle.std.specs.Prelude.{slice_get, slice_index, Option, unwrap_or, is_some, bytes_eq, if◌then◌else◌, Bool}
+use Rattle.std.proofs.lemmas.Bool.Decides.{nat_tests}
+use Rattle.std.proofs.Common.{◌≡◌, ℕ, zero, suc, ◌+◌, ◌-◌, ◌*◌, ◌%◌, ◌^◌, List, [], ◌∷◌, ◌++◌, length, length-append, Some, None, refl, ap, sym, ◌∙◌, arith}
+use Rattle.std.specs.Prelude.{slice_get, slice_index, Option, unwrap_or, is_some, if◌then◌else◌, Bool}
 use Rattle.std.specs.Option.{option_and_then}
 use Rattle.std.proofs.lemmas.Bool.{cases_Bool}
 use Rattle.std.proofs.lemmas.Option.{none-some, same_Some, get_or_from_slice_get, option_and_then_some}
@@ -43,11 +44,7 @@ module _ (names : List (List ℕ)) (name : List ℕ) where
   number_by text b = if b then Some (length names) else number_of names text
 
   keeps_by : (o : Option ℕ) → number_of names name ≡ o → KeepsNumbers names (named_by names name o)
-  keeps_by (Some k) there text n is = is
-  keeps_by None new text n is = elim (cases_Bool (bytes_eq text name)) [
-    | inl same ↦ absurd (none-some n (sym new ∙ ap (number_of names) (sym ((bytes_eq-Decides text name).0 same)) ∙ is))
-    | inr other ↦ number_push names name text new ∙ ap (number_by text) other ∙ is
-  ]
+  keeps_by o there text n is = grind (arith, nat_tests, cases_Bool, none-some, bytes_eq-Decides, number_push)
 
   has_by : (o : Option ℕ) → number_of names name ≡ o → (n : ℕ) × (number_of (named_by names name o) name ≡ Some n)
   has_by (Some k) there = (k, there)

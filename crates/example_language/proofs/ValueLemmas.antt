@@ -1,5 +1,6 @@
 -- One node more of a list whose values are computed.
-use Rattle.std.proofs.Common.{◌≡◌, ℕ, ◌+◌, ◌≤◌, List, [], ◌∷◌, ◌++◌, length, drop, Some, None, ap, sym, ◌∙◌}
+use Rattle.std.proofs.lemmas.Bool.Decides.{nat_tests}
+use Rattle.std.proofs.Common.{arith, ◌≡◌, ℕ, ◌+◌, ◌≤◌, List, [], ◌∷◌, ◌++◌, length, drop, Some, None, ap, ◌∙◌}
 use Rattle.std.specs.Prelude.{slice_get, Option}
 use Rattle.std.specs.Option.{option_and_then}
 use Rattle.std.proofs.lemmas.List.{drop_all}
@@ -20,12 +21,9 @@ module _ (names values : List ℕ) (nodes : List Node) (i : ℕ) where
     -- or there is none.
     pub value_none : node_value names values node ≡ None → values_after names values (drop i nodes) ≡ values_after names [] nodes
         → value_of names nodes ≡ None
-    value_none is before =
-        ap (option_and_then last_value)
-        (sym before ∙ ap (values_after names values) (drop_item nodes i node here) ∙ ap (option_and_then rest) is)
+    value_none is before = grind (arith, nat_tests, drop_item)
 
   -- the last value, if all are computed
   pub value_last : length nodes ≤ i → values_after names values (drop i nodes) ≡ values_after names [] nodes
       → last_value values ≡ value_of names nodes
-  value_last all before =
-      ap (option_and_then last_value) (sym (ap (values_after names values) (drop_all i nodes all)) ∙ before)
+  value_last all before = grind (arith, nat_tests, drop_all)

@@ -1,5 +1,6 @@
 -- Digits, and the number that they spell.
-use Rattle.std.proofs.Common.{◌≡◌, ℕ, ◌<◌, ◌^◌, ◌&&◌, List, [], ◌∷◌, length, true, nat_lt, refl, ap, sym, ◌∙◌, rules, Some, None, Result, Ok, Err}
+use Rattle.std.proofs.lemmas.Bool.Decides.{nat_tests}
+use Rattle.std.proofs.Common.{arith, ◌≡◌, ℕ, ◌<◌, ◌^◌, ◌&&◌, List, length, true, nat_lt, sym, ◌∙◌, rules, Some, None, Result}
 use Rattle.std.specs.Prelude.{if◌then◌else◌, OkIff}
 use Rattle.std.specs.Result.{result_ok}
 use Rattle.std.specs.List.{list_all}
@@ -10,13 +11,11 @@ use Rattle.std.proofs.lemmas.Str.Parse.{numerals_by_value, tells_all_ascii_digit
 use Rattle.example_language.specs.Meaning.{number_in}
 
 all_digits : (word : List ℕ) → list_all is_ascii_digit word ≡ all_ascii_digits word
-all_digits [] = refl
-all_digits (c ∷ cs) = ap (λ b. is_ascii_digit c && b) (all_digits cs)
+all_digits word = grind (arith, nat_tests)
 
 spelled : {E : Type 0} (size n : ℕ) (r : Result ℕ E) → OkIff r ((0 < size) × (n < 2 ^ 32)) n
     → result_ok r ≡ (if nat_lt 0 size && nat_lt n (2 ^ 32) then Some n else None)
-spelled size n (Ok x) h = search (rules, h)
-spelled size n (Err e) h = search (rules, h)
+spelled size n r h = grind (arith, nat_tests, rules)
 
 pub number_spelled : {E : Type 0} (word : List ℕ) (r : Result ℕ E) → ParsesUnsigned 32 10 word r
     → list_all is_ascii_digit word ≡ true → result_ok r ≡ number_in word

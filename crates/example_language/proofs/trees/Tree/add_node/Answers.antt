@@ -1,3 +1,4 @@
+use Rattle.std.proofs.lemmas.Bool.Decides.{nat_tests}
 use Rattle.std.proofs.Common.{[], ◌∷◌, arith, length-append}
 use Rattle.arena.specs.Vecs.{vec_list}
 use Rattle.example_language.specs.Nodes.{node_item}
@@ -8,14 +9,7 @@ use Rattle.example_language.proofs.TreeLemmas.{list_length, one_node, same_nodes
 use Rattle.example_language.proofs.trees.Tree.add_node.Goals as goal
 
 pub returns-in_err-push-clause-moves : goal.returns-in_err-push-clause-moves
-returns-in_err-push-clause-moves g c =
-    let tree = c.args.self.now in
-    let held = c.requires.held in
-    let push = c.in_err-push.ensures in
-    let stays = c.frame_law.ensures _ _ (tree.nodes.raw.block ∷ []) (c.push.new.self.raw.block ∷ []) tree.names
-    push.frame held.names held.apart in
-    nodes_moved c.args.a.now c.push.new.a tree (same_nodes push.err.0 push.err.1 held.nodes) push.frame stays.held stays.footprint stays.apart
-    (list_counts 12 4 _ _ _ _ _ _ _ _ push.made)
+returns-in_err-push-clause-moves g c = grind (arith, nat_tests, nodes_moved, same_nodes, list_counts)
 
 pub returns : goal.returns
 returns g c =
