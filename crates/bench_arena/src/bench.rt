@@ -53,14 +53,18 @@ impl Bench<'_> {
             count: RUNS,
             calls: self.calls.unwrap_or(calls).max(1),
         };
-        let checked = Runs {
-            count: 1,
-            calls: CHECKED,
+        let Some(word) = &self.word else {
+            return Some(timed);
         };
-        match &self.word {
-            Some(word) if word.as_str() == "check" => Some(checked),
-            Some(word) if word.as_str() != name => None,
-            _ => Some(timed),
+        if word.as_str() == "check" {
+            Some(Runs {
+                count: 1,
+                calls: CHECKED,
+            })
+        } else if word.as_str() == name {
+            Some(timed)
+        } else {
+            None
         }
     }
 
@@ -101,7 +105,8 @@ impl Bench<'_> {
 }
 
 fn number(word: Option<String>) -> Option<u64> {
-    word?.as_str().parse::<u64>().ok()
+    let word = word?;
+    word.as_str().parse::<u64>().ok()
 }
 
 // Runs a loop once in a new arena without a chunk. It is compiled for each loop separately, with an arena of its own.
@@ -121,15 +126,26 @@ fn run_once<F: Fn(&HostRuntime, &mut Heap, u64) -> Result<Timed, Failed>>(
 fn tell(rt: &HostRuntime, name: &str, runs: Runs, best: Timed) -> Result<(), Failed>
     requires { 0 < runs.calls }
 {
-    let (calls, number) = (runs.calls, best.number);
     if runs.count == 1 {
-        println!(rt; "{name} {number}")?;
-        return Ok(());
+        tell_number(rt, name, best.number)
+    } else {
+        tell_time(rt, name, runs.calls, best)
     }
+}
+
+fn tell_number(rt: &HostRuntime, name: &str, number: u64) -> Result<(), Failed> {
+    println!(rt; "{name} {number}")?;
+    Ok(())
+}
+
+fn tell_time(rt: &HostRuntime, name: &str, calls: u64, best: Timed) -> Result<(), Failed>
+    requires { 0 < calls }
+{
     // A call may take less than a picosecond.
     let femtoseconds = best.time.as_nanos() * 1_000_000 / calls as u128;
     let whole = femtoseconds / 1_000_000;
     let part = femtoseconds % 1_000_000;
+    let number = best.number;
     println!(rt; "{name:<21} {whole:>4}.{part:06} ns/op  ops {calls}  number {number}")?;
     Ok(())
 }

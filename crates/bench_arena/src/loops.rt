@@ -14,12 +14,15 @@ mod trees;
 mod vec;
 
 use crate::bench::Bench;
-use arena_chunks::{Allocator, MemoryChunks};
+use arena_chunks::{Allocator, ArenaErr, MemoryChunks};
+use arena_items::ItemErr;
+use arena_tree::TreeErr;
+use arena_vec::AllocError;
 pub use batches::in_batches;
-use std::fmt::Debug;
 use std::sync::Wait;
 use std::thread::Threads;
 use std::time::{Duration, Instant};
+use std::{alloc, io};
 
 /// An arena whose chunks come from memory.
 pub type Heap = Allocator<MemoryChunks>;
@@ -50,16 +53,52 @@ pub fn new_allocator(rt: &HostRuntime) -> Heap {
 // Returns an arena whose first chunk has `capacity` bytes.
 fn with_capacity(rt: &HostRuntime, capacity: u64) -> Result<Heap, Failed> {
     let chunks = MemoryChunks::new(rt.alloc(), BUDGET);
-    Allocator::with_capacity(rt.alloc(), chunks, capacity).map_err(|_| Failed)
+    match Allocator::with_capacity(rt.alloc(), chunks, capacity) {
+        Ok(a) => Ok(a),
+        Err(_) => Err(Failed::NoPlace),
+    }
 }
 
-/// A loop ended early: there was no place, or no clock.
+/// Why a loop ended early.
 #[derive(Clone, Copy)]
-pub struct Failed;
+pub enum Failed {
+    NoPlace,
+    NoClock,
+}
 
-impl<E: Debug + Drop> From<E> for Failed {
-    fn from(_: E) -> Failed {
-        Failed
+impl From<ArenaErr> for Failed {
+    fn from(_: ArenaErr) -> Failed {
+        Failed::NoPlace
+    }
+}
+
+impl From<ItemErr> for Failed {
+    fn from(_: ItemErr) -> Failed {
+        Failed::NoPlace
+    }
+}
+
+impl From<AllocError> for Failed {
+    fn from(_: AllocError) -> Failed {
+        Failed::NoPlace
+    }
+}
+
+impl From<alloc::AllocError> for Failed {
+    fn from(_: alloc::AllocError) -> Failed {
+        Failed::NoPlace
+    }
+}
+
+impl From<TreeErr> for Failed {
+    fn from(_: TreeErr) -> Failed {
+        Failed::NoPlace
+    }
+}
+
+impl From<io::Error> for Failed {
+    fn from(_: io::Error) -> Failed {
+        Failed::NoClock
     }
 }
 
@@ -70,28 +109,28 @@ pub struct Timed {
     pub number: u64,
 }
 
-impl Timed {
-    // The same time, with a number that was found after it.
-    fn with(self, number: u64) -> Timed {
-        Timed { number, ..self }
-    }
-}
-
 // The time at which a loop began, if the clock could be read.
 #[derive(Clone, Copy)]
-struct Clock(Option<Instant>);
+struct Clock {
+    began: Option<Instant>,
+}
 
 impl Clock {
     fn start(rt: &HostRuntime) -> Clock {
-        Clock(Instant::now(rt).ok())
+        Clock {
+            began: Instant::now(rt).ok(),
+        }
     }
 
     fn stop(self, rt: &HostRuntime, number: u64) -> Result<Timed, Failed> {
-        let time = self.0.ok_or(Failed)?.elapsed(rt)?;
+        let Some(began) = self.began else {
+            return Err(Failed::NoClock);
+        };
+        let time = began.elapsed(rt)?;
         Ok(Timed { time, number })
     }
 }
 
 fn count(calls: u64) -> Result<u32, Failed> {
-    Ok(u32::try_from(calls)?)
+    u32::try_from(calls).map_err(|_| Failed::NoPlace)
 }

@@ -25,7 +25,7 @@ pub(super) fn time(bench: &Bench) -> Result<(), Failed> {
 pub(super) fn layout(size: u64, align: u64) -> Result<Layout, Failed>
     ensures { IfOk result (λ l. l.size ≡ size) }
 {
-    Layout::new(size, align).ok_or(Failed)
+    Layout::new(size, align).ok_or(Failed::NoPlace)
 }
 
 // Sizes 1 to 64 and alignments 1 to 8, in an unpredictable order.

@@ -80,7 +80,11 @@ fn bitset_set(rt: &HostRuntime, a: &mut Heap, calls: u64) -> Result<Timed, Faile
     for _ in 0..calls {
         set.set_bit(a, scattered.next());
     }
-    Ok(clock.stop(rt, 0)?.with(count(a, &set)))
+    let timed = clock.stop(rt, 0)?;
+    Ok(Timed {
+        number: count(a, &set),
+        ..timed
+    })
 }
 
 // Numbers that are added to a set in ascending order.
@@ -90,7 +94,11 @@ fn bitset_set_ascending(rt: &HostRuntime, a: &mut Heap, calls: u64) -> Result<Ti
     for bit in 0..calls {
         set.set_bit(a, bit);
     }
-    Ok(clock.stop(rt, 0)?.with(count(a, &set)))
+    let timed = clock.stop(rt, 0)?;
+    Ok(Timed {
+        number: count(a, &set),
+        ..timed
+    })
 }
 
 // Numbers that are looked up in a scattered order. A third are in the set.
@@ -137,5 +145,9 @@ fn bitset_union(rt: &HostRuntime, a: &mut Heap, calls: u64) -> Result<Timed, Fai
     let set = BitSet::new_in(JOINED, a)?;
     let clock = Clock::start(rt);
     joined(a, set, other, calls.div_ceil(JOINED));
-    Ok(clock.stop(rt, 0)?.with(count(a, &set)))
+    let timed = clock.stop(rt, 0)?;
+    Ok(Timed {
+        number: count(a, &set),
+        ..timed
+    })
 }

@@ -1,16 +1,21 @@
 // Loops over values.
 use super::{Bench, Clock, Failed, Heap, Timed};
 use arena_items::{ArenaItems, Box};
-use std::array;
 
 // The number of numbers that are copied at once.
 const COPIED: u64 = 1024;
 
 pub(super) fn time(bench: &Bench) -> Result<(), Failed> {
-    let source = array::from_fn(|i| i as u32);
+    let mut source = [0; COPIED as usize];
+    for i in 0..COPIED {
+        source[i as usize] = i as u32;
+    }
     bench.time_batches("box_new", 10_000_000, boxes)?;
-    let copied = |a: &mut Heap, values| slices(a, &source, values);
-    bench.time_batches("slice_copy", 50_000_000, copied)?;
+    bench.time_batches(
+        "slice_copy",
+        50_000_000,
+        |a, values| slices(a, &source, values),
+    )?;
     bench.time_batches("str_copy", 10_000_000, texts)?;
     bench.time("alloc_fixed", 10_000_000, alloc_fixed)
 }

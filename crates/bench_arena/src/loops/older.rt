@@ -4,7 +4,7 @@ ghost use Rattle.std.specs.List.{All};
 ghost use Rattle.arena_chunks.specs.Memory.{is_readable};
 
 use super::arena::layout;
-use super::{Bench, Clock, Failed, Heap, Timed};
+use super::{Bench, Clock, Failed, Timed};
 use arena_chunks::{Arena, Block, MemoryChunks};
 use std::alloc::{AllocError, Global};
 
@@ -19,10 +19,16 @@ const SMALLEST: u64 = 1 << 14;
 
 pub(super) fn time(bench: &Bench) -> Result<(), Failed> {
     let chunks = bench.chunks;
-    let read = |rt: &HostRuntime, _: &mut Heap, calls| read_older(rt, calls, chunks);
-    bench.time("read_older", 10_000_000, read)?;
-    let write = |rt: &HostRuntime, _: &mut Heap, calls| write_older(rt, calls, chunks);
-    bench.time("write_older", 10_000_000, write)
+    bench.time(
+        "read_older",
+        10_000_000,
+        |rt, _, calls| read_older(rt, calls, chunks),
+    )?;
+    bench.time(
+        "write_older",
+        10_000_000,
+        |rt, _, calls| write_older(rt, calls, chunks),
+    )
 }
 
 // Places blocks of eight bytes, distributed evenly over the older chunks, or all in the newest chunk if there are no
@@ -85,7 +91,7 @@ fn scattered(
     let mut source = MemoryChunks::new(rt.alloc(), SMALLEST);
     let blocks = place_scattered(arena, &mut source, chunks.clamp(1, BLOCKS) - 1)?;
     if !all_held(arena, &blocks) {
-        return Err(Failed);
+        return Err(Failed::NoPlace);
     }
     Ok(blocks)
 }
@@ -147,7 +153,11 @@ fn timed_writes(
         write_round(arena, &blocks, order);
     }
     write_round(arena, &blocks, left);
-    Ok(clock.stop(rt, 0)?.with(read_round(arena, &blocks, order)))
+    let timed = clock.stop(rt, 0)?;
+    Ok(Timed {
+        number: read_round(arena, &blocks, order),
+        ..timed
+    })
 }
 
 // Blocks in the older of `chunks` chunks, which are read in an unpredictable order.

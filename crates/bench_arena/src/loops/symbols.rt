@@ -37,7 +37,7 @@ fn interned(a: &mut Heap, symbols: &mut Symbols, texts: &[String]) -> Result<u64
     let mut number: u64 = 0;
     for text in texts {
         if text.len() >= 1 << 32 {
-            return Err(Failed);
+            return Err(Failed::NoPlace);
         }
         number = number.wrapping_add(symbols.intern(a, text.as_str())? as u64);
     }

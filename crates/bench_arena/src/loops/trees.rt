@@ -131,7 +131,7 @@ fn parsed(a: &mut Heap, src: &[u8], times: u64) -> Result<u64, Failed>
 fn parsed_often(rt: &HostRuntime, a: &mut Heap, src: &[u8], calls: u64) -> Result<Timed, Failed> {
     let bytes = src.len() as u64;
     if bytes == 0 || bytes > 1 << 24 {
-        return Err(Failed);
+        return Err(Failed::NoPlace);
     }
     parsed(a, src, 1)?;
     let clock = Clock::start(rt);

@@ -5,7 +5,6 @@ ghost use Rattle.arena_vec.specs.Vecs.{IsVecIn};
 use super::{Bench, Clock, Failed, Heap, Timed, count};
 use arena_items::Item;
 use arena_vec::Vec;
-use std::array;
 
 // The number of numbers in a small vector, of those that are inserted at the front, and of those that are appended at
 // once.
@@ -34,7 +33,9 @@ pub(super) fn sizes(vec: Vec<u32>) -> u64 {
 pub(super) fn numbers(a: &mut Heap, calls: u64) -> Result<Vec<u32>, Failed>
     ensures { IfOk result (IsVecIn ⟦<u32 as Item>⟧ a.new.memory) }
 {
-    Ok(Vec::from_iter_in(0..count(calls)?, a)?)
+    let n = count(calls)?;
+    let vec = Vec::from_iter_in(0..n, a)?;
+    Ok(vec)
 }
 
 // Appends the numbers below n to the vector.
@@ -111,7 +112,10 @@ fn extended(a: &mut Heap, source: &[u32; SLICE as usize], times: u64) -> Result<
 
 // Numbers that are appended 256 at a time. A call is one number.
 fn vec_extend(rt: &HostRuntime, a: &mut Heap, calls: u64) -> Result<Timed, Failed> {
-    let source = array::from_fn(|i| i as u32);
+    let mut source = [0; SLICE as usize];
+    for i in 0..SLICE {
+        source[i as usize] = i as u32;
+    }
     let clock = Clock::start(rt);
     let vec = extended(a, &source, calls / SLICE)?;
     clock.stop(rt, sizes(vec))
