@@ -49,6 +49,23 @@ pub use Rattle.arena_items.proofs.RoomLemmas.{
   refusal_leaves,
   whole_refusal,
 }
+pub use Rattle.arena_items.proofs.AskLemmas.{
+  still,
+  by_size,
+  empty_solid,
+  capacity_is,
+  block_taken,
+  block_asked,
+  growth_taken,
+  growth_asked,
+  table_taken,
+  table_asked,
+  asked_before,
+  runs_behind,
+  runs_then,
+  ends_then,
+  ends_sooner,
+}
 pub use Rattle.arena_items.proofs.CostLemmas.{
   taken_refused,
   room_brings,

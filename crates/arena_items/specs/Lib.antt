@@ -15,8 +15,10 @@ pub mod Typed
 pub mod Room
 pub mod Costs
 pub mod Denied
+pub mod Asks
 pub mod Rows
 pub mod Footprint
 pub mod FootprintLaws
 pub mod FrameLaw
+pub mod Beside
 pub mod Messages

@@ -12,10 +12,12 @@ ghost use Rattle.arena_store.specs.declared.block.Block.{Block};
 ghost use Rattle.arena_items.specs.Footprint.{Agree, AreReadable};
 ghost use Rattle.arena_items.specs.FrameLaw.{StaysHeld, StaysInUse};
 
+mod beside;
 mod costs;
 
 use crate::address::Address;
 use crate::values::InArena;
+pub use beside::{beside_law, new_law, part_law};
 pub use costs::{costs_law, room_law};
 
 /// The frame law. A call on some blocks keeps every value whose footprint is apart from them: it is held, names the

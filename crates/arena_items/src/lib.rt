@@ -3,11 +3,13 @@
 #![tactic(auto)]
 
 mod address;
+mod beside;
 mod boxes;
 mod elements;
 mod get_allocator;
 mod handles;
 mod item;
+mod item_as;
 pub mod laws;
 mod numbers;
 mod options;
@@ -22,10 +24,12 @@ mod values;
 mod zeros;
 
 pub use address::{Address, GetAddress};
+pub use beside::Beside;
 pub use boxes::{ArenaBox, Box};
 pub use elements::{item_at, put_copies, put_item, put_items};
 pub use get_allocator::{GetAllocator, allocator_of};
 pub use item::Item;
+pub use item_as::ItemAs;
 pub use placing::ItemErr;
 pub use room::{AllocError, Grown, Growth, grown, take_room};
 pub use rows::{copy_items, move_items};
