@@ -20,7 +20,8 @@ pub const CHUNK_FOOTER_SIZE: u64 = 48;
 /// The data size of a chunk plus this is a power of two or whole pages, except for an arena over a region.
 pub const OVERHEAD: u64 = 64;
 
-/// The first chunk begins at this address, and larger chunks are whole pages of this size, less the overhead.
+/// The first chunk begins at this address rounded up to its alignment, and larger chunks are whole pages of this size,
+/// less the overhead.
 pub const TYPICAL_PAGE_SIZE: u64 = 4096;
 
 /// The least size that an allocation tries for a chunk, with its overhead.
