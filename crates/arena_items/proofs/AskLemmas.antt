@@ -156,8 +156,9 @@ runs_then (Larger at size align ∷ asks) more blocks among later old mid new (b
     (block, between, asked, runs_then asks more (blocks ++ block ∷ []) among later between mid new runs rest)
 
 get_later : {X : Type 0} (xs ys : List X) (n : ℕ) → slice_get (xs ++ ys) (length xs + n) ≡ slice_get ys n
-get_later [] ys n = refl
-get_later (x ∷ xs) ys n = get_later xs ys n
+get_later {X = X} [] ys n = let e : length {A = X} [] + n ≡ n = grind arith in ap (slice_get ys) e
+get_later (x ∷ xs) ys n =
+    let e : length (x ∷ xs) + n ≡ suc (length xs + n) = grind arith in ap (slice_get (x ∷ xs ++ ys)) e ∙ get_later xs ys n
 
 get_sooner : {X : Type 0} (xs ys : List X) (n : ℕ) (x : X) → slice_get xs n ≡ Some x
     → (slice_get (xs ++ ys) n ≡ Some x) × (take n (xs ++ ys) ≡ take n xs)
