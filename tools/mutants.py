@@ -169,10 +169,10 @@ class Said:
     def __init__(self, status, printed, texts):
         self.lines, self.texts = printed.rstrip("\n").split("\n"), texts
         self.spans = {file: functions(text) for file, text in texts.items()}
-        last = self.lines[-1]
-        self.proved = status == 0 and last.startswith("logic=proved")
+        self.last = next((line for line in reversed(self.lines) if line.startswith("logic=")), self.lines[-1])
+        self.proved = status == 0 and self.last.startswith("logic=proved")
         unread = [line for line in self.lines if self.unread(line)]
-        self.refused = status == 1 and last.startswith("logic=not-proved") and not unread
+        self.refused = status == 1 and self.last.startswith("logic=not-proved") and not unread
         uncompiled = [line for line in self.lines if re.search(r"\berror\[[\w-]+\]", line)]
         self.bad = unread or ([] if self.refused or self.proved else uncompiled)
 
@@ -253,7 +253,7 @@ class Tries:
         base = self.copy.check(self.crate, [])
         if not base.proved:
             for mutant in mutants:
-                self.end(mutant, "not tried", f"the crate itself isn't proved: {base.lines[-1][:120]}")
+                self.end(mutant, "not tried", f"the crate itself isn't proved: {base.last[:120]}")
             return
         for batch in in_batches(mutants):
             self.batch(batch)
@@ -296,7 +296,7 @@ class Tries:
         elif said.bad:
             self.end(mutant, "BAD EDIT", said.bad[0][:140])
         else:
-            self.end(mutant, "not tried", said.lines[-1][:140])
+            self.end(mutant, "not tried", said.last[:140])
 
 
 def tried():
