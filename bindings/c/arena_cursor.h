@@ -1,8 +1,10 @@
 /* arena_cursor: the proved arithmetic of a bump arena, for memory of your own, and an allocator over it.
  *
  * Link libarena_cursor.a. Its functions compute addresses: none reads or writes the memory, or allocates any. Any numbers
- * may be passed, and a function that returns another code than 0 changes nothing. The two pointers of a call are to
- * different variables of the caller, and a cursor is used by one thread at a time.
+ * may be passed, and a function that returns another code than 0 changes nothing.
+ *
+ * Pointers aren't null, are aligned for their type, and those of a call don't overlap: `addr` isn't a field of `*at`. A
+ * cursor is used by one thread at a time.
  *
  * docs/BINDINGS.md says what is proved of these functions, and crates/arena_cursor/CALLING.md by which contracts.
  */

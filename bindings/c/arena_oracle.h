@@ -22,7 +22,7 @@ extern "C" {
 enum arena_oracle_status {
     ARENA_ORACLE_DONE = 0,
     ARENA_ORACLE_BAD_LINE = 2,       /* report.line is the first line that isn't a call; nothing was run */
-    ARENA_ORACLE_OUT_OF_MEMORY = 3,  /* also for a chunk within the limits */
+    ARENA_ORACLE_OUT_OF_MEMORY = 3,  /* also for a chunk within the limits, or for more than 4,294,967,295 calls */
     ARENA_ORACLE_INPUT_TOO_LONG = 6, /* there are more than 16,777,216 bytes of lines */
     ARENA_ORACLE_NO_ROOM = 7         /* out is unchanged; the text has report.length bytes */
 };
@@ -30,15 +30,16 @@ enum arena_oracle_status {
 struct arena_oracle_report {
     uint64_t length;  /* bytes of the text */
     uint64_t line;    /* the line that is refused, counted from 1, or 0 */
-    uint64_t refused; /* requests for chunks that weren't granted: with code 0, those that the limits refuse */
+    uint64_t refused; /* requests for chunks that weren't granted: those that the limits refuse; with code 3, of a part of the run */
 };
 
-/* Runs lines of calls over a new arena, and puts the text of their replies at the front of out. Just the requests for
- * chunks beyond `budget` bytes in all are refused, and those whose numbers, counted from 1, are in `refuse`. */
+/* Runs lines of calls over a new arena, and puts the text of their replies at the front of out. Requests for chunks beyond
+ * `budget` bytes in all are refused, and those whose numbers, counted from 1, are in `refuse`. Unless memory runs out, which
+ * has code 3, no other request is. */
 uint32_t arena_oracle_calls(const uint8_t *lines, size_t lines_len, uint64_t budget, const uint64_t *refuse, size_t refuse_len,
                             uint8_t *out, size_t out_len, struct arena_oracle_report *report);
 
-/* The same for the summary of `count` pseudo-random calls, generated from `start`. */
+/* The same for the summary of `count` pseudo-random calls, up to 4,294,967,295, generated from `start`. */
 uint32_t arena_oracle_gen(uint64_t start, uint64_t count, uint64_t budget, const uint64_t *refuse, size_t refuse_len, uint8_t *out,
                           size_t out_len, struct arena_oracle_report *report);
 

@@ -28,6 +28,7 @@ pub fn run_picture<C: Budgeted, I: Input, O: Output, E: Output>(
 ) -> ExitCode
     requires new { arena.old ≡ uncounted_memory (empty_state 1) [] }
     requires budget { C.left chunks.old ≡ budget }
+    requires unrefused { (C.source chunks.old).refusals ≡ 0 }
     ensures { (status : Status) × (exit_status result ≡ code_of status)
         × Draws status
         (outside (I.left input.old) (I.faults input.old) (O.written output.old) (O.faults output.old)

@@ -3,3 +3,4 @@ pub mod ReportLemmas
 pub mod TurnLemmas
 pub mod EndLemmas
 pub mod ReturnLemmas
+pub mod OneRunLemmas

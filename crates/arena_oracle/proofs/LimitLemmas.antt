@@ -1,6 +1,7 @@
 -- One more request, and what the limits make of it.
-use Rattle.std.proofs.Common.{◌≡◌, ℕ, ◌+◌, ◌-◌, ◌^◌, ◌<◌, ◌≤◌, Bool, true, false, refl, sym, arith, IsTrue, List, [], ◌∷◌, ◌++◌, length, eqb-true, eq-eqb}
-use Rattle.std.specs.Prelude.{◌||◌, ◌==◌, if◌then◌else◌}
+use Rattle.std.proofs.Common.{◌≡◌, ℕ, ◌+◌, ◌-◌, ◌^◌, ◌<◌, ◌≤◌, ◌⊎◌, inl, inr, Bool, true, false, refl, sym, ◌∙◌, arith, IsTrue, List, [], ◌∷◌, ◌++◌, length, take, take_all, eqb-true, eq-eqb}
+use Rattle.std.specs.Prelude.{◌||◌, ◌==◌, not, if◌then◌else◌}
+use Rattle.std.proofs.lemmas.List.{length-append, take-append-le}
 use Rattle.arena_rules.specs.Causes.{counted}
 use Rattle.arena_oracle.specs.Limits.{is_allowed, left_behind, one_refusal, left_of, refusals_of}
 
@@ -46,6 +47,23 @@ by_uses : (e : Bool) {m n k j : ℕ} {b : Bool} → IsTrue (e || m == n) → IsT
 by_uses true same also go = refl
 by_uses false same also go = go (eqb-true _ _ same) (eqb-true _ _ also)
 
+-- all but the last
+but_last : (xs : List (ℕ × ℕ)) (r : ℕ × ℕ) → take (length (xs ++ r ∷ []) - 1) (xs ++ r ∷ []) ≡ xs
+but_last xs r =
+    let most : length (xs ++ r ∷ []) - 1 ≡ length xs = omega (arith, length-append xs (r ∷ [])) in
+    rw most (take-append-le (length xs) xs (r ∷ []) (omega arith) ∙ take_all (length xs) xs (omega arith))
+
+-- Up to the last request but one that was granted, if it is the last one, the limits refuse as many as of all.
+pub refused_behind : (e granted : Bool) (refuse : List ℕ) (budget refused most : ℕ) (requests : List (ℕ × ℕ)) → e ≡ false
+    → IsTrue (e || refused == refusals_of refuse 1 budget requests)
+    → IsTrue (not granted || e || refused == refusals_of refuse 1 budget (take (length requests - 1) requests))
+    → (length requests ≡ most) ⊎ (IsTrue granted × (length requests ≡ most + 1)) → refused ≡ refusals_of refuse 1 budget (take most requests)
+refused_behind e granted refuse budget refused most requests known counts last (inl is) =
+    rw (take_all most requests (omega (arith, is))) (eqb-true _ _ (rw known at counts))
+refused_behind e granted refuse budget refused most requests known counts last (inr is) =
+    let but : length requests - 1 ≡ most = omega (arith, is.1) in
+    eqb-true _ _ (rw (is.0, known, but) at last)
+
 -- So are the facts of a source kept, unless memory has run out.
 module _ (e : Bool) (refuse : List ℕ) (budget left refused size align : ℕ) (requests new : List (ℕ × ℕ))
     (put : new ≡ requests ++ (size, align) ∷ []) (remains : IsTrue (e || left == left_of refuse 1 budget requests)) where
@@ -68,3 +86,8 @@ module _ (e : Bool) (refuse : List ℕ) (budget left refused size align : ℕ) (
       let more = rw (← is, so) at (refusals_at refuse 1 budget (length requests + 1) requests (size, align) (omega arith)) in
       let most = refusals_most refuse 1 budget requests in
       rw put (eq-eqb _ _ (omega (arith, rises, more, same, most, few))))
+
+  pub last_allowed : (granted : Bool) → IsTrue (e || refused == refusals_of refuse 1 budget requests)
+      → IsTrue (not granted || e || refused == refusals_of refuse 1 budget (take (length new - 1) new))
+  last_allowed true counts = rw (put, but_last requests (size, align)) counts
+  last_allowed false counts = refl

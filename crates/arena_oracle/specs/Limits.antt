@@ -1,5 +1,5 @@
 -- The limits of a source of chunks, and what they refuse.
-use Rattle.std.specs.Prelude.{◌≡◌, ℕ, ◌+◌, ◌-◌, ◌≤◌, Bool, true, false, not, ◌&&◌, ◌==◌, nat_le, if◌then◌else◌, List, [], ◌∷◌, ◌++◌, length, map, sum, take, Option, Some, None}
+use Rattle.std.specs.Prelude.{◌≡◌, ℕ, ◌+◌, ◌-◌, ◌<◌, ◌≤◌, Bool, true, false, not, ◌&&◌, ◌==◌, nat_le, if◌then◌else◌, List, [], ◌∷◌, ◌++◌, length, map, sum, take, Option, Some, None}
 use Rattle.std.specs.List.{list_any}
 use Rattle.arena_rules.specs.Source.{Source}
 use Rattle.arena_rules.specs.State.{State}
@@ -34,11 +34,21 @@ abbrev pub refusals_of : List ℕ → ℕ → ℕ → List (ℕ × ℕ) → ℕ
 refusals_of refuse n left [] = 0
 refusals_of refuse n left (r ∷ rest) = one_refusal refuse n left r.0 + refusals_of refuse (n + 1) (left_behind refuse n left r.0) rest
 
--- Of the requests of the first n calls, for each n, as many were refused as the limits refuse. So they say how many
--- were refused in each call.
+-- how many requests of the first n calls were refused, by their replies, and all requests of these calls
+abbrev pub refused_by : List Reply → ℕ → ℕ
+refused_by replies n = sum (take n (told replies))
+
+abbrev pub made_by : State → List Call → List Reply → ℕ → List (ℕ × ℕ)
+made_by entry calls replies n = requests_of entry (take n calls) (take n (told replies))
+
+-- Of the requests of the first n calls, for each n, the limits refuse as many as the replies report. Of those of the next
+-- call, of which its reply reports k, they refuse the first k, and so allow the one behind them. So the limits determine
+-- how many are refused in each call.
 pub record KeepsLimits (budget : ℕ) (refuse : List ℕ) (entry : State) (calls : List Call) (replies : List Reply) : Type 0 where
-  pub first : (n : ℕ) → n ≤ length calls
-      → sum (take n (told replies)) ≡ refusals_of refuse 1 budget (requests_of entry (take n calls) (take n (told replies)))
+  pub first : (n : ℕ) → n ≤ length calls → refused_by replies n ≡ refusals_of refuse 1 budget (made_by entry calls replies n)
+  pub next : (n : ℕ) → n < length calls → refused_by replies (n + 1) ≡ refusals_of refuse 1 budget
+      (take (length (made_by entry calls replies n) + (refused_by replies (n + 1) - refused_by replies n))
+      (made_by entry calls replies (n + 1)))
 
 -- ---- What is reported
 

@@ -1,5 +1,5 @@
 // Runs over a new arena, with bytes in memory.
-ghost use Rattle.std.specs.Prelude.{◌≡◌, ℕ, ◌<◌, false, List, [], length, Some, IfOk, IfErr, IsErrAnd};
+ghost use Rattle.std.specs.Prelude.{◌≡◌, ℕ, ◌^◌, ◌<◌, ◌≤◌, false, List, [], length, Some, IfOk, IfErr, IsErrAnd};
 ghost use Rattle.call_rules.specs.declared.calls.Reply.{Reply};
 ghost use Rattle.arena_store.specs.Source.{view};
 ghost use Rattle.arena_chunks.specs.Runs.Replies.{TakesMore};
@@ -89,6 +89,7 @@ pub fn gen_text(
         YieldsWithin (GenWithin start count) [] (source_of chunks.old) (source_of chunks.new) Status.Done text.items) }
     ensures err { IfErr result (λ status.
         YieldsWithin (GenWithin start count) [] (source_of chunks.old) (source_of chunks.new) status []) }
+    ensures many { 2 ^ 32 ≤ count → IsErrAnd result (λ status. status ≡ Status.OutOfMemory) }
 {
     let mut arena = Arena::<1>::new(alloc);
     let Ok(mut text) = room_for_text(alloc) else {

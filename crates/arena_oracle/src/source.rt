@@ -1,5 +1,5 @@
 // Chunks from memory within limits: a budget, and numbers of requests that are refused.
-ghost use Rattle.std.specs.Prelude.{◌≡◌, ◌<◌, ◌^◌, ◌||◌, ◌==◌, IsTrue, length};
+ghost use Rattle.std.specs.Prelude.{◌≡◌, ◌<◌, ◌^◌, ◌-◌, ◌||◌, ◌==◌, not, IsTrue, length, take};
 ghost use Rattle.arena_oracle.specs.Limits.{left_of, refusals_of};
 
 use arena_chunks::ChunkSource;
@@ -23,15 +23,19 @@ pub struct ListedChunks<'a> {
     pub exhausted: bool,
     /// How many requests weren't granted, up to 2^64 - 1.
     pub refused: u64,
+    /// Whether the last request was granted.
+    pub granted: bool,
     pub ghost few: { length requests.items < 2 ^ 63 },
     pub ghost remains: { IsTrue (exhausted || left == left_of refuse.now 1 budget requests.items) },
     pub ghost refusals: { IsTrue (exhausted || refused == refusals_of refuse.now 1 budget requests.items) },
+    pub ghost last: { IsTrue (not granted || exhausted
+        || refused == refusals_of refuse.now 1 budget (take (length requests.items - 1) requests.items)) },
 }
 
 impl<'a> ListedChunks<'a> {
-    ghost use Rattle.std.specs.Prelude.{◌+◌, [], ◌∷◌, true, false};
+    ghost use Rattle.std.specs.Prelude.{◌+◌, ◌-◌, [], ◌∷◌, true, false, take};
     ghost use Rattle.arena_rules.specs.Causes.{TellsRequests, counted};
-    ghost use Rattle.arena_oracle.specs.Limits.{is_allowed, limited, reported};
+    ghost use Rattle.arena_oracle.specs.Limits.{is_allowed, limited, refusals_of, reported};
 
     /// Returns a source within these limits that has had no request. Doesn't allocate.
     pub fn new(alloc: Global, budget: u64, refuse: &'a [u64]) -> ListedChunks<'a>
@@ -45,6 +49,7 @@ impl<'a> ListedChunks<'a> {
             requests: Vec::new(alloc),
             exhausted: false,
             refused: 0,
+            granted: false,
         }
     }
 
@@ -71,12 +76,31 @@ impl<'a> ListedChunks<'a> {
             self.run_out();
             return false;
         }
+        self.granted = allowed;
         if allowed {
             self.left -= size;
         } else {
             self.refused = self.refused.saturating_add(1);
         }
         allowed
+    }
+
+    /// Returns how many requests there were.
+    pub fn asked(&self) -> usize
+        ensures { result ≡ length self.now.requests.items }
+    {
+        self.requests.len()
+    }
+
+    /// Returns whether the requests after the first `made`, of which `refused` weren't granted, end with the only one
+    /// of them that was granted, or none was.
+    pub fn ends_granted(&self, made: usize, refused: u64) -> bool
+        ensures { IsTrue result → self.now.exhausted ≡ false → self.now.refused
+            ≡ refusals_of self.now.refuse.now 1 self.now.budget (take (made + (self.now.refused - refused)) self.now.requests.items) }
+    {
+        let most = (made as u64).saturating_add(self.refused.saturating_sub(refused));
+        let len = self.requests.len() as u64;
+        len == most || (self.granted && len == most.saturating_add(1))
     }
 
     // Refuses a request, since memory has run out.
@@ -86,6 +110,7 @@ impl<'a> ListedChunks<'a> {
         ensures exhausted { self.new.exhausted ≡ true }
     {
         self.exhausted = true;
+        self.granted = false;
         self.refused = self.refused.saturating_add(1);
     }
 }

@@ -148,6 +148,39 @@ fn one_of_two_requests_is_refused(rt: HostRuntime) {
     }
 }
 
+// For 10000 bytes behind a chunk of 16320 bytes two sizes are tried, 32704 and 16320, at 20464. The block is at the end.
+#[test]
+fn the_first_size_that_the_limits_allow_is_granted(rt: HostRuntime) {
+    for case in &[
+        // 33680 bytes of the budget are left, enough for the first size, and not for both.
+        Case {
+            lines: "alloc 1 16000 1 0\nalloc 2 10000 1 0\n",
+            budget: 50_000,
+            text: "placed 4416 refused 0\nplaced 43168 refused 0\n",
+            ..DONE
+        },
+        Case {
+            lines: "alloc 1 16000 1 0\nalloc 2 10000 1 0\n",
+            budget: 1_048_576,
+            refuse: &[2],
+            refused: 1,
+            text: "placed 4416 refused 0\nplaced 26784 refused 1\n",
+            ..DONE
+        },
+        // The second request is listed, and the third is beyond the budget.
+        Case {
+            lines: "alloc 1 16000 1 0\nalloc 2 10000 1 0\n",
+            budget: 30_000,
+            refuse: &[2],
+            refused: 2,
+            text: "placed 4416 refused 0\nallocerr refused 2\n",
+            ..DONE
+        },
+    ] {
+        holds(&rt, rt.alloc(), case);
+    }
+}
+
 #[test]
 fn a_text_without_room_has_code_7(rt: HostRuntime) {
     let mut out = [46u8; 8];
@@ -166,15 +199,94 @@ fn lines_that_are_too_long_have_code_6(rt: HostRuntime) {
     assert_eq!(rt; (code, report.length, out), (6, 0, [46u8; 8]));
 }
 
+// Generated calls from 1, and what they return.
+struct Generated<'a> {
+    count: u64,
+    budget: u64,
+    refuse: &'a [u64],
+    code: u32,
+    refused: u64,
+    text: &'static str,
+}
+
+// The first four calls write to 250, shrink 25, and allocate 243 bytes at a multiple of 2 for 107, and 246 at one of 8 for
+// 83: at 20172 and 19920. The texts of ten thousand calls are what a program in Python returns that follows the rules; for
+// a million calls it returns `examples/generated/million.summary`.
+const GENERATED: &[Generated<'static>] = &[
+    Generated {
+        count: 0,
+        budget: 0,
+        refuse: &[],
+        code: 0,
+        refused: 0,
+        text: "calls 0\nplaced 0\nfailed 0\nother 0\nbytes 0\nsum 0\nused 0\nallocated 0\n",
+    },
+    Generated {
+        count: 4,
+        budget: 20_000,
+        refuse: &[],
+        code: 0,
+        refused: 0,
+        text: "calls 4\nplaced 2\nfailed 0\nother 2\nbytes 0\nsum 0\nused 496\nallocated 16320\n",
+    },
+    Generated {
+        count: 4,
+        budget: 16_319,
+        refuse: &[],
+        code: 0,
+        refused: 2,
+        text: "calls 4\nplaced 0\nfailed 2\nother 2\nbytes 0\nsum 0\nused 0\nallocated 0\n",
+    },
+    Generated {
+        count: 10_000,
+        budget: 1 << 40,
+        refuse: &[],
+        code: 0,
+        refused: 0,
+        text: "calls 10000\nplaced 1956\nfailed 0\nother 5837\nbytes 234110\nsum 30214878\nused 456212\nallocated 507584\n",
+    },
+    // Each of the many calls without room makes two or three requests, all refused.
+    Generated {
+        count: 10_000,
+        budget: 100_000,
+        refuse: &[2],
+        code: 0,
+        refused: 7991,
+        text: "calls 10000\nplaced 457\nfailed 2663\nother 6165\nbytes 65283\nsum 8798797\nused 97361\nallocated 98048\n",
+    },
+    Generated {
+        count: 1 << 32,
+        budget: 20_000,
+        refuse: &[],
+        code: 3,
+        refused: 0,
+        text: "",
+    },
+];
+
 #[test]
 fn calls_from_a_number_have_a_summary(rt: HostRuntime) {
-    let mut out = [0u8; 200];
-    let mut report = NOTHING;
-    let code = arena_oracle_gen(rt.alloc(), 1, 0, 0, &[], &mut out, &mut report);
-    let wanted: &[u8] =
-        b"calls 0\nplaced 0\nfailed 0\nother 0\nbytes 0\nsum 0\nused 0\nallocated 0\n";
-    assert_eq!(rt; (code, report.length), (0, wanted.len() as u64));
-    assert!(rt; out.starts_with(wanted));
+    for row in GENERATED {
+        let mut out = [0u8; 200];
+        let mut report = NOTHING;
+        let code = arena_oracle_gen(
+            rt.alloc(),
+            1,
+            row.count,
+            row.budget,
+            row.refuse,
+            &mut out,
+            &mut report,
+        );
+        assert_eq!(rt;
+            (code, report.length),
+            (row.code, row.text.len() as u64),
+            "{}",
+            row.count
+        );
+        assert_eq!(rt; report.refused, row.refused, "{}", row.count);
+        assert!(rt; out.starts_with(row.text.as_bytes()), "{}", row.count);
+    }
 }
 
 #[test]

@@ -1,5 +1,5 @@
 // Runs over an arena, of which the source keeps its limits.
-ghost use Rattle.std.specs.Prelude.{◌≡◌, ℕ, List, IfOk, OnErr};
+ghost use Rattle.std.specs.Prelude.{◌≡◌, ◌^◌, ◌≤◌, ℕ, List, IfOk, IsErr, OnErr};
 ghost use Rattle.call_rules.specs.Generator.{gen_calls};
 ghost use Rattle.call_rules.specs.declared.calls.Reply.{Reply};
 ghost use Rattle.arena_store.specs.Source.{view};
@@ -39,8 +39,11 @@ pub fn run_calls_within<R: Replies>(
     replies.reserve(calls.len())?;
     let mut exhausted = false;
     for (done, call) in calls.iter().enumerate() {
+        let (made, refused) = (chunks.asked(), chunks.refused);
         run.serve(arena, chunks, call, calls.len() - done - 1, replies)?;
-        exhausted |= chunks.exhausted;
+        // A call makes no request after one that is granted, but its contract doesn't say which one that is.
+        let ends = chunks.ends_granted(made, refused);
+        exhausted |= chunks.exhausted | !ends;
     }
     let held = run.held(arena)?;
     if exhausted {
@@ -67,6 +70,7 @@ pub fn run_generated_within(
         × IsTally tally list) }
     ensures err { OnErr result
         (StopsEarly (view arena.old (source_of chunks.old)) (view arena.new (source_of chunks.new)) (gen_calls start count)) }
+    ensures many { 2 ^ 32 ≤ count → IsErr result }
 {
     let mut draws = Draws::new(alloc, start);
     let mut run = Run::new(alloc, arena)?;
@@ -75,8 +79,10 @@ pub fn run_generated_within(
     let mut exhausted = false;
     for i in 0..count {
         let call = draws.call(i);
+        let (made, refused) = (chunks.asked(), chunks.refused);
         run.serve(arena, chunks, &call, count - i - 1, &mut tally)?;
-        exhausted |= chunks.exhausted;
+        let ends = chunks.ends_granted(made, refused);
+        exhausted |= chunks.exhausted | !ends;
     }
     run.held(arena)?;
     if exhausted {

@@ -4,7 +4,7 @@ use Rattle.std.proofs.lemmas.Option.{slice_get_read}
 use Rattle.call_rules.specs.declared.calls.Call.{Call}
 use Rattle.arena_calls.proofs.StreamLemmas.{on_err}
 use Rattle.arena_drawing.proofs.EndLemmas.{first_all}
-use Rattle.arena_oracle.proofs.TurnLemmas.{turns_first, turns_more, neither, kept_by_turns}
+use Rattle.arena_oracle.proofs.TurnLemmas.{turns_first, turns_more, neither, shown, kept_by_turns}
 use Rattle.arena_oracle.proofs.within.run_calls_within.Goals as goal
 
 pub loop-done-init : goal.loop-done-init
@@ -30,9 +30,10 @@ loop-done-preserved g c =
       taken = λ list taken. subst (g.R.Replies.has_taken c.serve.new.replies) (append_assoc list now.list (served.0 ∷ []))
           (served.2 (list ++ now.list) (now.taken list taken));
       room = omega (arith, now.room, c.in_ok-serve.ensures.room);
-      turns = λ known. let both = neither _ _ known in
-          turns_more _ _ c.serve.new.chunks _ _ (λ (n : ℕ). take n c.args.calls.now) c.loop-done.done now.list served.0 _ more refl
-          (served.1 _ (take c.loop-done.done c.args.calls.now) now.list now.running) both.1 (now.turns both.0);
+      turns = λ known. let both = neither _ _ known in let also = neither _ _ both.1 in
+          turns_more _ _ c.loop-done.chunks c.serve.new.chunks _ _ (λ (n : ℕ). take n c.args.calls.now) c.loop-done.done now.list served.0 _ more refl
+          (served.1 _ (take c.loop-done.done c.args.calls.now) now.list now.running) also.0 (rw c.asked-made.ensures at (c.ends_granted-ends.ensures (shown _ also.1) also.0))
+          (now.turns both.0);
     }
 
 pub returns-clause-ok : goal.returns-clause-ok
@@ -41,7 +42,7 @@ returns-clause-ok g c =
     let now = c.loop-done.invariant in (
       now.list,
       c.in_ok-held.ensures.ok _ _ c.args.calls.now now.list (rw all at now.running),
-      kept_by_turns _ _ c.args.calls.now c.loop-done.done now.list (omega arith) (now.turns c.if-exhausted.false),
+      kept_by_turns _ _ _ c.args.calls.now c.loop-done.done now.list (omega arith) (now.turns c.if-exhausted.false),
       λ list taken. now.taken list (c.reserve.ensures.same list taken),
     )
 

@@ -14,5 +14,5 @@ invariant-loop-done g l = record {
       l.run.names l.run.marks (take l.done l.calls) list;
   taken : TakesMore g.R.Replies.has_taken l.initial.replies l.replies list;
   room : length l.calls ≤ g.R.Replies.room l.replies + l.done;
-  turns : l.exhausted ≡ false → KeepsFirst (source_of l.initial.chunks) l.initial.arena.state (λ n. take n l.calls) l.done list;
+  turns : l.exhausted ≡ false → KeepsFirst (source_of l.initial.chunks) l.initial.arena.state l.chunks (λ n. take n l.calls) l.done list;
 }

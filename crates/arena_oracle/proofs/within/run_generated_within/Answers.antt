@@ -4,7 +4,7 @@ use Rattle.call_rules.specs.Generator.{gen_calls}
 use Rattle.arena_calls.proofs.StreamLemmas.{on_err}
 use Rattle.arena_calls.proofs.GeneratingLemmas.{seed_first, seed_more, calls_more, calls_first, call_next}
 use Rattle.arena_drawing.proofs.EndLemmas.{first_all}
-use Rattle.arena_oracle.proofs.TurnLemmas.{turns_first, turns_more, neither, kept_by_generated}
+use Rattle.arena_oracle.proofs.TurnLemmas.{turns_first, turns_more, neither, shown, kept_by_generated}
 use Rattle.arena_oracle.proofs.within.run_generated_within.Goals as goal
 
 pub loop-i-init : goal.loop-i-init
@@ -33,9 +33,10 @@ loop-i-preserved c =
       tally = counted;
       calls = omega (arith, counted.calls, now.tally.calls, now.calls, length-append now.list (served.0 ∷ []));
       most = now.most;
-      turns = λ known. let both = neither _ _ known in
-          turns_more _ _ c.serve.new.chunks _ _ (gen_calls c.args.start) c.loop-i.i now.list served.0 _ more refl
-          (served.1 _ (gen_calls c.args.start c.loop-i.i) now.list now.running) both.1 (now.turns both.0);
+      turns = λ known. let both = neither _ _ known in let also = neither _ _ both.1 in
+          turns_more _ _ c.loop-i.chunks c.serve.new.chunks _ _ (gen_calls c.args.start) c.loop-i.i now.list served.0 _ more refl
+          (served.1 _ (gen_calls c.args.start c.loop-i.i) now.list now.running) also.0 (rw c.asked-made.ensures at (c.ends_granted-ends.ensures (shown _ also.1) also.0))
+          (now.turns both.0);
     }
 
 pub returns-clause-ok : goal.returns-clause-ok
@@ -46,9 +47,12 @@ returns-clause-ok c =
       now.list,
       c.in_ok-held.field-0.items,
       c.in_ok-held.ensures.ok _ _ (gen_calls c.args.start c.args.count) now.list (rw over at now.running),
-      kept_by_generated _ _ c.args.start c.args.count now.list (rw over at turns),
+      kept_by_generated _ _ _ c.args.start c.args.count now.list (rw over at turns),
       now.tally,
     )
+
+pub returns-clause-many : goal.returns-clause-many
+returns-clause-many c = λ over. absurd (omega (arith, over, c.loop-i.invariant.most))
 
 -- ---- Where memory runs out
 

@@ -17,5 +17,5 @@ invariant-loop-i l = record {
   tally : IsTally l.tally list;
   calls : l.tally.calls ≡ l.i;
   most : l.count ≤ 2 ^ 32 - 1;
-  turns : l.exhausted ≡ false → KeepsFirst (source_of l.initial.chunks) l.initial.arena.state (gen_calls l.start) l.i list;
+  turns : l.exhausted ≡ false → KeepsFirst (source_of l.initial.chunks) l.initial.arena.state l.chunks (gen_calls l.start) l.i list;
 }
