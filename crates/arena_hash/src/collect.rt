@@ -36,6 +36,7 @@ impl<K: ArenaKey, V: Item, S: KeyHasher> HashMap<K, V, S> {
         ensures held { IfOk result (IsMapIn (kind K.Item K.key V.Item S.hash_of) a.new.memory) }
         ensures frame { IfOk result (λ m. Frame a.old.memory a.new.memory [] (m.table.block ∷ [])) }
         ensures beside { OnErr result (Frame a.old.memory a.new.memory [] []) }
+        ensures hasher { IfOk result (λ m. S.is_default m.hasher) }
         ensures collects { IfOk result
             (CollectsAll (kind K.Item K.key V.Item S.hash_of) I.next_gives iter a.old a.new) }
         ensures refused { IfErr result

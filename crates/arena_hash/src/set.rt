@@ -106,6 +106,7 @@ impl<T: ArenaKey, S: KeyHasher> HashSet<T, S> {
         ensures held { IfOk result (λ s. IsMapIn (set_kind T.Item T.key S.hash_of) a.new.memory s.map) }
         ensures frame { IfOk result (λ s. Frame a.old.memory a.new.memory [] (s.map.table.block ∷ [])) }
         ensures beside { OnErr result (Frame a.old.memory a.new.memory [] []) }
+        ensures hasher { IfOk result (λ s. S.is_default s.map.hasher) }
         ensures collects { IfOk result (λ s. CollectsAll (set_kind T.Item T.key S.hash_of)
             (StepsInPairs I.next_gives) iter a.old a.new s.map) }
         ensures refused { IfErr result (CollectsSome (set_kind T.Item T.key S.hash_of)

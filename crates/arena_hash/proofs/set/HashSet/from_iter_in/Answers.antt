@@ -7,12 +7,14 @@ use Rattle.arena_hash.proofs.SetLemmas.{items-yielded}
 use Rattle.arena_hash.proofs.set.HashSet.from_iter_in.Goals as goal
 
 pub loop-item-init : goal.loop-item-init
-loop-item-init g c =
-    collecting-none _ (StepsInPairs g.I.Iterator.next_gives) _ _ _ c.new_in-map.ensures.map
+loop-item-init g c = (
+  collecting-none _ (StepsInPairs g.I.Iterator.next_gives) _ _ _ c.new_in-map.ensures.map,
+  c.new_in-map.ensures.hasher,
+)
 
 pub insert-requires-clause-text : goal.insert-requires-clause-text
 insert-requires-clause-text g c =
-    let so_far = c.loop-item.invariant in
+    let so_far = c.loop-item.invariant.0 in
     let gave = items-yielded g.I.Iterator.next_gives c.args.iter so_far.pairs c.loop-item.iter so_far.yields in
     let readable = c.requires.texts (map (λ p. p.0) so_far.pairs) c.loop-item.iter c.next.new.self c.in-Some.item gave
     c.in-Some.ensures.steps in
@@ -20,7 +22,7 @@ insert-requires-clause-text g c =
 
 pub insert-requires-clause-apart : goal.insert-requires-clause-apart
 insert-requires-clause-apart g c =
-    let so_far = c.loop-item.invariant in
+    let so_far = c.loop-item.invariant.0 in
     let gave = items-yielded g.I.Iterator.next_gives c.args.iter so_far.pairs c.loop-item.iter so_far.yields in
     let readable = c.requires.texts (map (λ p. p.0) so_far.pairs) c.loop-item.iter c.next.new.self c.in-Some.item gave
     c.in-Some.ensures.steps in
@@ -28,19 +30,21 @@ insert-requires-clause-apart g c =
 
 pub loop-item-preserved : goal.loop-item-preserved
 loop-item-preserved g c =
-    let so_far = c.loop-item.invariant in
-    let gave = items-yielded g.I.Iterator.next_gives _ _ _ so_far.yields in
-    collecting-more _ (StepsInPairs g.I.Iterator.next_gives) _ _ _ _ _ _ _ _ (c.in-Some.item, tt) c.loop-item.invariant
-    c.in-Some.ensures.steps (c.requires.texts (map (λ p. p.0) so_far.pairs) c.loop-item.iter c.next.new.self c.in-Some.item gave
-    c.in-Some.ensures.steps) _ c.in_ok-insert.ensures
+    let so_far = c.loop-item.invariant.0 in
+    let gave = items-yielded g.I.Iterator.next_gives _ _ _ so_far.yields in (
+      collecting-more _ (StepsInPairs g.I.Iterator.next_gives) _ _ _ _ _ _ _ _ (c.in-Some.item, tt) c.loop-item.invariant.0
+          c.in-Some.ensures.steps (c.requires.texts (map (λ p. p.0) so_far.pairs) c.loop-item.iter c.next.new.self c.in-Some.item gave
+          c.in-Some.ensures.steps) _ c.in_ok-insert.ensures,
+      rw c.in_ok-insert.ensures.hasher c.loop-item.invariant.1,
+    )
 
 pub returns-in_err-insert-clause-refused : goal.returns-in_err-insert-clause-refused
 returns-in_err-insert-clause-refused g c =
     let p = err_from_is_err_and c.from_residual.result c.from_residual.ensures.1 in
     rw (p.1, p.2)
-    (collecting-refused _ (StepsInPairs g.I.Iterator.next_gives) _ _ c.next.new.self _ _ _ _ _ (c.in-Some.item, tt) c.loop-item.invariant
+    (collecting-refused _ (StepsInPairs g.I.Iterator.next_gives) _ _ c.next.new.self _ _ _ _ _ (c.in-Some.item, tt) c.loop-item.invariant.0
     c.in-Some.ensures.steps _ c.in_err-insert.ensures)
 
 pub returns-clause-collects : goal.returns-clause-collects
 returns-clause-collects g c =
-    collecting-all _ _ _ _ c.next.new.self _ _ _ c.loop-item.invariant (rw c.in_default.is at c.next.ensures.steps)
+    collecting-all _ _ _ _ c.next.new.self _ _ _ c.loop-item.invariant.0 (rw c.in_default.is at c.next.ensures.steps)

@@ -6,3 +6,4 @@ abbrev pub invariant-loop-item : goal.invariant-loop-item
 invariant-loop-item g l =
     IsCollecting (set_kind g.T.Item g.T.ArenaKey.key g.S.KeyHasher.hash_of) (StepsInPairs g.I.Iterator.next_gives) l.fn.iter l.iter l.fn.a
     l.a l.map
+    × g.S.Default.is_default l.map.hasher
