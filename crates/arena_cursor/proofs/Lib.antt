@@ -1,3 +1,5 @@
 pub mod PlaceLemmas
 pub mod ApartLemmas
 pub mod StepLemmas
+pub mod GrowingLemmas
+pub mod CountLemmas

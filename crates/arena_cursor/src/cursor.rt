@@ -1,8 +1,11 @@
 // A cursor between two addresses, and the steps of the rules on it.
-ghost use Rattle.std.specs.Prelude.{◌≡◌, ◌+◌, ◌%◌, ◌≤◌, IsTrue, IfSome, IfNone};
+ghost use Rattle.std.specs.Prelude.{◌≡◌, ◌+◌, ◌-◌, ◌%◌, ◌≤◌, IsTrue, IfSome, IfNone};
 ghost use Rattle.arena_rules.specs.Rounding.{down, is_power};
 ghost use Rattle.arena_rules.specs.Search.{place_below};
-ghost use Rattle.arena_rules.specs.Moves.{dealloc, grow, shrink};
+ghost use Rattle.arena_rules.specs.State.{start_of, cursor_of, used_bytes, allocated_bytes};
+ghost use Rattle.arena_rules.specs.Moves.{dealloc, grow, shrink, emptied, with_chunk};
+ghost use Rattle.arena_rules.specs.Creation.{empty_state};
+ghost use Rattle.arena_cursor.specs.Growing.{is_region};
 ghost use Rattle.arena_cursor.specs.Steps.{is_valid, is_in_use, is_mark, arena_of, MovesTo, IsStep, IsResized};
 
 use arena_place::{Layout, is_aligned_to, place, round_down_to};
@@ -28,6 +31,18 @@ pub struct Cursor {
     pub cursor: u64,
     /// One past the highest address.
     pub end: u64,
+}
+
+/// How many bytes of a chunk there are.
+#[repr(C)]
+#[derive(Clone, Copy)]
+pub struct Counts {
+    /// In use: from the cursor up.
+    pub used: u64,
+    /// In all.
+    pub size: u64,
+    /// Below the cursor.
+    pub free: u64,
 }
 
 impl Cursor {
@@ -137,5 +152,45 @@ impl Cursor {
         }
         self.cursor = addr + up;
         Some(addr + up)
+    }
+
+    // Goes to a new chunk with these bytes, with nothing in use.
+    #[tactic(auto, using(crate::proofs::CountLemmas::count_laws))]
+    pub(crate) fn enter(&mut self, base: u64, size: u64)
+        requires { IsTrue (is_region base size) }
+        ensures chunk { (arena_of self.new).chunks ≡ (with_chunk (base, size) (empty_state 1)).chunks }
+        ensures valid { IsTrue (is_valid self.new) }
+    {
+        let end = base + size;
+        *self = Cursor {
+            start: base,
+            cursor: end,
+            end,
+        };
+    }
+
+    // Gives everything back.
+    #[tactic(auto, using(crate::proofs::CountLemmas::count_laws))]
+    pub(crate) fn empty(&mut self)
+        requires { IsTrue (is_valid self.old) }
+        ensures chunk { (arena_of self.new).chunks ≡ emptied (arena_of self.old).chunks }
+        ensures valid { IsTrue (is_valid self.new) }
+    {
+        self.cursor = self.end;
+    }
+
+    // Returns how many bytes there are.
+    #[tactic(auto, using(crate::proofs::CountLemmas::count_laws))]
+    pub(crate) fn counts(&self) -> Counts
+        requires { IsTrue (is_valid self.now) }
+        ensures used { result.used ≡ used_bytes (arena_of self.now) }
+        ensures size { result.size ≡ allocated_bytes (arena_of self.now) }
+        ensures free { result.free ≡ cursor_of (arena_of self.now).chunks - start_of (arena_of self.now).chunks }
+    {
+        Counts {
+            used: self.end - self.cursor,
+            size: self.end - self.start,
+            free: self.cursor - self.start,
+        }
     }
 }

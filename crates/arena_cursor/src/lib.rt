@@ -1,21 +1,30 @@
-//! The arena's rules of places for memory that isn't the arena's: a cursor between two addresses of a program in C.
+//! The arena's rules of places for memory that isn't the arena's: a cursor between two addresses of a program in C, and
+//! the chunks that such a program asks for if its arena grows.
 //!
-//! The functions compute addresses. None of them reads or writes the memory, or takes any. Every function takes any
+//! The functions compute addresses and sizes. None of them reads or writes the memory, or takes any. Every function takes any
 //! numbers, and returns a code; it changes something only if that is 0. `CALLING.md` has the codes.
 #![tactic(auto)]
 
-ghost use Rattle.std.specs.Prelude.{◌≡◌, ◌≢◌, ◌+◌, ◌%◌, ◌≤◌, ◌&&◌, IsTrue, false, true, Some, None, nat_le};
+ghost use Rattle.std.specs.Prelude.{◌≡◌, ◌≢◌, ◌+◌, ◌-◌, ◌%◌, ◌^◌, ◌≤◌, ◌&&◌, IsTrue, false, true, Some, None, nat_le, nat_lt, is_some};
 ghost use Rattle.arena_rules.specs.Rounding.{is_layout};
-ghost use Rattle.arena_rules.specs.Search.{place_below};
-ghost use Rattle.arena_rules.specs.Moves.{dealloc, grow, shrink};
+ghost use Rattle.arena_rules.specs.State.{start_of, cursor_of, used_bytes, allocated_bytes};
+ghost use Rattle.arena_rules.specs.Search.{place_below, size_for};
+ghost use Rattle.arena_rules.specs.Moves.{dealloc, grow, shrink, emptied, with_chunk};
+ghost use Rattle.arena_rules.specs.Creation.{empty_state};
 ghost use Rattle.arena_cursor.specs.Steps.{is_valid, is_in_use, is_mark, arena_of, answer_of, IsCode, IsStep, IsResized};
+ghost use Rattle.arena_cursor.specs.Growing.{size_after, IsRequest, IsRequestCode, is_region};
 
 mod cursor;
+mod growing;
+mod laws;
 #[cfg(test)]
 mod tests;
 
 use arena_place::Layout;
-pub use cursor::Cursor;
+pub use cursor::{Counts, Cursor};
+pub use growing::Chunk;
+use growing::{request_after, request_for};
+pub use laws::any_address;
 
 // The rule gives an address, which is returned.
 const DONE: u32 = 0;
@@ -199,5 +208,122 @@ pub extern "C" fn arena_cursor_back(at: &mut Cursor, mark: u64) -> u32
         return OUT_OF_RANGE;
     }
     at.cursor = mark;
+    DONE
+}
+
+// ---- An arena that grows
+
+/// Writes the request for a chunk for a tried size and a block of this size and alignment, by the rule `size_for`. With
+/// the size of the block, and an alignment of 1, it is the one for an arena with this capacity.
+///
+/// Returns 0; 1 if no chunk is that large; 2 if size and alignment are no layout; 4 if the tried size is 0.
+#[unsafe(no_mangle)]
+pub extern "C" fn arena_cursor_chunk(tried: u64, size: u64, align: u64, chunk: &mut Chunk) -> u32
+    ensures code { IsRequestCode (is_layout size align) (nat_lt 0 tried) (is_some (size_for tried size align)) result }
+    ensures size { result ≡ 0 → size_for tried size align ≡ Some chunk.new.size }
+    ensures request { result ≡ 0 → IsRequest size align chunk.new }
+    ensures same { result ≢ 0 → chunk.new ≡ chunk.old }
+{
+    let Some(layout) = Layout::new(size, align) else {
+        return BAD_LAYOUT;
+    };
+    if tried == 0 {
+        return OUT_OF_RANGE;
+    }
+    match request_for(tried, layout) {
+        Some(request) => {
+            *chunk = request;
+            DONE
+        }
+        None => NO_PLACE,
+    }
+}
+
+/// Writes the request for a new chunk, for a block that has no place in the newest chunk, after this many requests for it
+/// were refused: the size that a growing arena asks for then. `newest` is the data size of the newest chunk, 0 if there
+/// is none.
+///
+/// Returns 0; 1 if the arena asks no more; 2 if size and alignment are no layout; 4 if `newest` is 2^63 or more.
+#[unsafe(no_mangle)]
+pub extern "C" fn arena_cursor_next_chunk(
+    newest: u64,
+    size: u64,
+    align: u64,
+    refused: u32,
+    chunk: &mut Chunk,
+) -> u32
+    ensures code { IsRequestCode (is_layout size align) (nat_lt newest (2 ^ 63))
+        (is_some (size_after newest size align refused)) result }
+    ensures size { result ≡ 0 → size_after newest size align refused ≡ Some chunk.new.size }
+    ensures request { result ≡ 0 → IsRequest size align chunk.new }
+    ensures same { result ≢ 0 → chunk.new ≡ chunk.old }
+{
+    let Some(layout) = Layout::new(size, align) else {
+        return BAD_LAYOUT;
+    };
+    if newest >= 1 << 63 {
+        return OUT_OF_RANGE;
+    }
+    match request_after(newest, layout, refused) {
+        Some(request) => {
+            *chunk = request;
+            DONE
+        }
+        None => NO_PLACE,
+    }
+}
+
+/// Makes the cursor that of a new chunk with these bytes for blocks, with nothing in use.
+///
+/// Returns 0; 4 if the base is 0 or the end exceeds the last address.
+#[unsafe(no_mangle)]
+pub extern "C" fn arena_cursor_enter(at: &mut Cursor, base: u64, size: u64) -> u32
+    ensures no_region { is_region base size ≡ false → result ≡ 4 }
+    ensures done { is_region base size ≡ true → result ≡ 0 }
+    ensures entered { result ≡ 0 → (arena_of at.new).chunks ≡ (with_chunk (base, size) (empty_state 1)).chunks }
+    ensures valid { result ≡ 0 → IsTrue (is_valid at.new) }
+    ensures same { result ≢ 0 → at.new ≡ at.old }
+{
+    if base == 0 || size > u64::MAX - base {
+        return OUT_OF_RANGE;
+    }
+    at.enter(base, size);
+    DONE
+}
+
+/// Gives everything back, by the rule `emptied`: the cursor moves to the end.
+///
+/// Returns 0; 3 for a cursor that isn't valid.
+#[unsafe(no_mangle)]
+pub extern "C" fn arena_cursor_reset(at: &mut Cursor) -> u32
+    ensures bad_cursor { is_valid at.old ≡ false → result ≡ 3 }
+    ensures done { is_valid at.old ≡ true → result ≡ 0 }
+    ensures emptied { result ≡ 0 → (arena_of at.new).chunks ≡ emptied (arena_of at.old).chunks }
+    ensures valid { result ≡ 0 → IsTrue (is_valid at.new) }
+    ensures same { result ≢ 0 → at.new ≡ at.old }
+{
+    if !at.is_valid() {
+        return BAD_CURSOR;
+    }
+    at.empty();
+    DONE
+}
+
+/// Writes how many of the chunk's bytes there are, how many are in use, and how many are below the cursor.
+///
+/// Returns 0; 3 for a cursor that isn't valid.
+#[unsafe(no_mangle)]
+pub extern "C" fn arena_cursor_count(at: &Cursor, counts: &mut Counts) -> u32
+    ensures bad_cursor { is_valid at.now ≡ false → result ≡ 3 }
+    ensures done { is_valid at.now ≡ true → result ≡ 0 }
+    ensures used { result ≡ 0 → counts.new.used ≡ used_bytes (arena_of at.now) }
+    ensures size { result ≡ 0 → counts.new.size ≡ allocated_bytes (arena_of at.now) }
+    ensures free { result ≡ 0 → counts.new.free ≡ cursor_of (arena_of at.now).chunks - start_of (arena_of at.now).chunks }
+    ensures same { result ≢ 0 → counts.new ≡ counts.old }
+{
+    if !at.is_valid() {
+        return BAD_CURSOR;
+    }
+    *counts = at.counts();
     DONE
 }

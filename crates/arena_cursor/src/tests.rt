@@ -1,7 +1,8 @@
 // The calls on numbers. Expected numbers are worked out by hand from the rules.
 use crate::{
-    Cursor, arena_cursor_back, arena_cursor_give_back, arena_cursor_grow, arena_cursor_place,
-    arena_cursor_shrink,
+    Chunk, Counts, Cursor, arena_cursor_back, arena_cursor_chunk, arena_cursor_count,
+    arena_cursor_enter, arena_cursor_give_back, arena_cursor_grow, arena_cursor_next_chunk,
+    arena_cursor_place, arena_cursor_reset, arena_cursor_shrink,
 };
 
 fn fresh() -> Cursor {
@@ -83,4 +84,72 @@ fn wrong_numbers_have_a_code(rt: HostRuntime) {
     assert_eq!(rt; arena_cursor_back(&mut at, 1101), 4);
     assert_eq!(rt; arena_cursor_back(&mut at, 1099), 4);
     assert_eq!(rt; (addr, at.cursor), (1100, 1100));
+}
+
+// The size of the newest chunk, the size and the alignment of the block, the refusals, the code, the data size and the
+// alignment of the chunk.
+const CHUNKS: &[(u64, u64, u64, u32, u32, u64, u64)] = &[
+    // The least size, 64 below 16384.
+    (0, 1, 1, 0, 0, 16320, 16),
+    (0, 1, 1, 1, 1, 16320, 16),
+    // Twice the newest, and the half of that.
+    (16320, 1, 1, 0, 0, 32704, 16),
+    (16320, 1, 1, 1, 0, 16320, 16),
+    (16320, 1, 1, 2, 1, 16320, 16),
+    // A block of 5 pages, at a greater alignment.
+    (0, 20480, 64, 0, 0, 24512, 64),
+    // Twice the newest is below the block.
+    (16320, 40000, 8, 0, 0, 40896, 16),
+    (16320, 40000, 8, 1, 1, 40896, 16),
+    (0, 1, 3, 0, 2, 40896, 16),
+    (1 << 63, 1, 1, 0, 4, 40896, 16),
+    // Rounded up to 16 it exceeds 2^63 - 64, the largest data size.
+    (0, (1 << 63) - 63, 1, 0, 1, 40896, 16),
+];
+
+#[test]
+fn chunks_are_asked_for_in_the_arenas_sizes(rt: HostRuntime) {
+    let mut chunk = Chunk {
+        size: 0,
+        bytes: 0,
+        align: 0,
+    };
+    for row in CHUNKS {
+        let (newest, size, align, refused, code, wanted, unit) = *row;
+        let got = arena_cursor_next_chunk(newest, size, align, refused, &mut chunk);
+        assert!(rt;
+            got == code
+                && chunk.size == wanted
+                && chunk.bytes == wanted + 48
+                && chunk.align == unit,
+            "{newest} {size} {align} {refused}"
+        );
+    }
+    assert_eq!(rt; arena_cursor_chunk(100, 100, 1, &mut chunk), 0);
+    assert_eq!(rt; (chunk.size, chunk.bytes), (192, 240));
+    assert_eq!(rt; arena_cursor_chunk(0, 0, 1, &mut chunk), 4);
+    assert_eq!(rt; arena_cursor_chunk(1 << 63, 1, 1, &mut chunk), 1);
+}
+
+#[test]
+fn a_chunk_is_entered_and_emptied(rt: HostRuntime) {
+    let (mut at, mut addr) = (fresh(), 0);
+    let mut counts = Counts {
+        used: 0,
+        size: 0,
+        free: 0,
+    };
+    assert_eq!(rt; arena_cursor_enter(&mut at, 4096, 192), 0);
+    assert_eq!(rt; (at.start, at.cursor, at.end), (4096, 4288, 4288));
+    assert_eq!(rt; arena_cursor_place(&mut at, 100, 4, &mut addr), 0);
+    assert_eq!(rt; arena_cursor_count(&at, &mut counts), 0);
+    assert_eq!(rt;
+        (addr, counts.used, counts.size, counts.free),
+        (4188, 100, 192, 92)
+    );
+    assert_eq!(rt; arena_cursor_reset(&mut at), 0);
+    assert_eq!(rt; at.cursor, 4288);
+    assert_eq!(rt; arena_cursor_enter(&mut at, 0, 192), 4);
+    assert_eq!(rt; arena_cursor_enter(&mut at, 4096, u64::MAX - 4095), 4);
+    assert_eq!(rt; (at.start, at.end), (4096, 4288));
 }
