@@ -13,8 +13,8 @@ use Rattle.arena_chunks.specs.Memory.{Memory}
 use Rattle.arena_chunks.proofs.Layers.{placed_least}
 use Rattle.arena_items.specs.LayoutLaws.{plain_8}
 use Rattle.arena_items.specs.declared.room.AllocError.{AllocError}
-use Rattle.arena_items.proofs.Layers.{row_is_layout}
-use Rattle.arena_clone.specs.Asks.Ask.{Room}
+use Rattle.arena_items.specs.Asks.{NoBlock, Fresh}
+use Rattle.arena_items.proofs.Layers.{row_is_layout, still, block_taken, block_asked}
 use Rattle.arena_bits.specs.Sets.{IsSetIn, set_of, AreOneOrApart, BecomesSet, PlacesSet}
 use Rattle.arena_bits.specs.declared.set.BitSet.{BitSet}
 use Rattle.script_rules.specs.Objects.{get, has, Bits, bits_end, ASet}
@@ -28,10 +28,10 @@ use Rattle.arena_script.specs.Things.{Things, object_in, seen, bits_below, AreTh
 use Rattle.arena_script.specs.declared.thing.Thing.{Thing}
 use Rattle.arena_script.specs.Wants.{takes_room}
 use Rattle.arena_script.specs.Asks.{asks}
+use Rattle.arena_script.specs.Places.{block_at}
 use Rattle.arena_script.specs.Acts.{GivesThing, GivesNothing}
 use Rattle.arena_script.specs.declared.thing.Thing.TheVariants as thing
-use Rattle.arena_script.proofs.CostFacts.{still, same_used, nothing_given, block_given, block_refused}
-use Rattle.arena_script.proofs.AskLemmas.{block_asked}
+use Rattle.arena_script.proofs.CostFacts.{same_used, nothing_given, block_given, block_refused}
 use Rattle.arena_script.proofs.GivingLemmas.{exchanged, made, kept}
 use Rattle.arena_script.proofs.ThingLemmas.{Holds, other_name}
 use Rattle.arena_script.proofs.BitFacts.{has_below, bits_with, bits_without, bits_joined, bits_none}
@@ -55,20 +55,21 @@ module _ {things : Things} {m : Memory} {name : ℕ} {s : BitSet} (h : Holds thi
 
 module _ {things : Things} {old new : View} {name : ℕ} {s : BitSet} (h : Holds things old.memory name (thing.Bits s)) where
   becomes : {set : Set} {all : Bits} {command : Command} → bits_below (end h) set ≡ all
-      → effect command (seen old.memory things) ≡ Gives name (ASet s.capacity all) Done 0 → BecomesSet old new s set
+      → effect command (seen old.memory things) ≡ Gives name (ASet s.capacity all) Done 0
+      → asks command (seen old.memory things) (block_at things) ≡ NoBlock → BecomesSet old new s set
       → GivesThing command things old new name (thing.Bits s) Done
-  becomes same given is = grind (arith, nat_tests, exchanged, same_used, nothing_given)
+  becomes same given idle is = grind (arith, nat_tests, exchanged, same_used, nothing_given)
 
   pub set_gives : (bit : ℕ) → bit < 64 * s.words.length → BecomesSet old new s (with_bit (here h) bit)
       → GivesThing (SetBit name bit) things old new name (thing.Bits s) Done
   unfolding effect
   set_gives bit inside = becomes (bits_with (end h) (here h) bit (omega (arith, inside, h.held.held.count)))
-      (rw (h.found, low h bit inside) refl)
+      (rw (h.found, low h bit inside) refl) refl
 
   pub unset_gives : (bit : ℕ) → bit < 64 * s.words.length → BecomesSet old new s (without_bit (here h) bit)
       → GivesThing (UnsetBit name bit) things old new name (thing.Bits s) Done
   unfolding effect
-  unset_gives bit inside = becomes (bits_without (end h) (here h) bit) (rw (h.found, low h bit inside) refl)
+  unset_gives bit inside = becomes (bits_without (end h) (here h) bit) (rw (h.found, low h bit inside) refl) refl
 
   pub union_gives : {other : ℕ} {t : BitSet} → Holds things old.memory other (thing.Bits t)
       → BecomesSet old new s (joined (here h) (below (64 * min s.words.length t.words.length) (set_of old.memory t)))
@@ -77,7 +78,7 @@ module _ {things : Things} {old new : View} {name : ℕ} {s : BitSet} (h : Holds
   union_gives {other} {t} there is =
       let limit : 64 * min s.words.length t.words.length ≡ min (end h) (bits_end t.capacity)
       = omega (arith, h.held.held.count, there.held.held.count) in
-      becomes (bits_joined (end h) (bits_end t.capacity) (here h) (set_of old.memory t)) (rw (h.found, there.found) refl) (rw limit at is)
+      becomes (bits_joined (end h) (bits_end t.capacity) (here h) (set_of old.memory t)) (rw (h.found, there.found) refl) refl (rw limit at is)
 
 -- ---- A new set
 
@@ -94,11 +95,12 @@ set_layout capacity small = row_is_layout (words_for capacity) 8 8 plain_8 (omeg
 module _ {command : Command} {things : Things} {old new : View} {name capacity : ℕ} {set : Set}
     (taken : IsTrue (takes_room command)) (none : get things name ≡ None) (small : capacity < 2 ^ 32) (one : old.memory.state.min_align ≡ 1)
     (given : effect command (seen old.memory things) ≡ Gives name (ASet capacity (bits_below (bits_end capacity) set)) Done
-    (8 * words_for capacity + 7)) where
+    (8 * words_for capacity + 7))
+    (asks_is : asks command (seen old.memory things) (block_at things) ≡ Fresh (words_for capacity * 8) 8) where
   pub made_gives : {s : BitSet} → PlacesSet old new capacity set (Ok s) → GivesThing command things old new name (thing.Bits s) Done
-  made_gives {s} places = made none taken (given ∙ ap (λ o. Gives name o Done (8 * words_for capacity + 7)) (sym is)) (record {
+  made_gives {s} places = made none taken (given ∙ ap (λ o. Gives name o Done (8 * words_for capacity + 7)) (sym is)) asks_is (record {
+    takes = block_taken old new (words_for capacity * 8) 8 None s.words.block places.placed;
     held = record { held = places.held; small = omega (arith, places.capacity, small) };
-    room = refl;
     least = omega (
       arith,
       placed_least old new (words_for capacity * 8) 8 s.words.block (set_layout capacity small) places.placed,
@@ -114,10 +116,10 @@ module _ {command : Command} {things : Things} {old new : View} {name capacity :
       is = ap (λ (t : Set). ASet s.capacity (bits_below (bits_end s.capacity) t)) places.set_is
           ∙ ap (λ c. ASet c (bits_below (bits_end c) set)) places.capacity
 
-  pub made_gives_nothing : asks command old.memory things ≡ Room (words_for capacity * 8) 8 → {e : AllocError}
+  pub made_gives_nothing : {e : AllocError}
       → PlacesSet old new capacity set (Err e) → GivesNothing command things old new e
-  made_gives_nothing is {e} places = kept none taken given
-      (rw is (block_asked old new (words_for capacity * 8) 8 (λ (s : BitSet). s.words.block) e places.placed))
+  made_gives_nothing {e} places = kept none taken given asks_is
+      (block_asked old new (words_for capacity * 8) 8 (λ (s : BitSet). s.words.block) e places.placed)
       (block_refused old new new (words_for capacity * 8) 8 (8 * words_for capacity + 7) 0 0 one (set_layout capacity small) (omega arith)
       (omega (arith, small)) (omega arith) (still new) (λ (s : BitSet). s.words.block) e places.placed)
 

@@ -9,10 +9,11 @@ use Rattle.arena_rules.proofs.GrownLemmas.{alloc_failed}
 use Rattle.arena_rules.proofs.RoundingLemmas.{layout_power}
 use Rattle.arena_chunks.specs.Source.{View}
 use Rattle.arena_chunks.specs.Answers.{Answer}
-use Rattle.arena_chunks.specs.Answers.Answer.{Placed, Exhausted, Refused}
+use Rattle.arena_chunks.specs.Answers.Answer.{Placed, Refused}
 use Rattle.arena_chunks.specs.BlockCalls.{PlacesBlock}
 use Rattle.arena_store.specs.declared.block.Block.{Block}
 use Rattle.arena_chunks.proofs.Layers.{asks_same}
+use Rattle.arena_items.specs.Asks.{refusal}
 use Rattle.arena_items.specs.Costs.{Costs, farthest}
 use Rattle.arena_items.specs.Room.{MakesRoom, TakesRoom, RoomAnswer, SamePlaces, capacity_after}
 use Rattle.arena_items.specs.Values.{IsHeld}
@@ -25,9 +26,6 @@ use Rattle.script_rules.specs.declared.commands.Command.{Command}
 use Rattle.arena_script.specs.Things.{Things}
 use Rattle.arena_script.specs.Acts.{used, far, CostsGiven, CostsRefused, HasNoPlace, GivesNothing, Acts}
 use Rattle.arena_script.specs.declared.act.Act.{Act}
-
-pub still : (a : View) → SamePlaces a a
-still a = record { state = refl; statistics = refl; source = refl }
 
 -- the same bytes are in use where no cursor moved
 pub same_used : (old new : View) → SamePlaces old new → used new ≡ used old
@@ -62,11 +60,7 @@ pub not_given : {command : Command} {things : Things} {old new : View} {e : Allo
     → IsErrAnd result (λ x. x ≡ e) → GivesNothing command things old new e → Acts command things old new result
 not_given result is gives = grind (arith, nat_tests)
 
--- the answer of a call that is refused with this error, and what it leaves
-abbrev pub refusal : AllocError → Answer
-refusal (AllocErr k) = Refused k
-refusal e = Exhausted
-
+-- what a call that is refused leaves
 pub unchanged : {X : Type 0} (old new : View) (size align : ℕ) (f : X → Block) (e : AllocError)
     → RoomAnswer f (Err e) (PlacesBlock old new size align) → new.memory ≡ old.memory
 unchanged old new size align f e places = grind (arith, nat_tests)

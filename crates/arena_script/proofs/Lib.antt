@@ -22,3 +22,6 @@ pub mod TakenLemmas
 pub mod TextCopies
 pub mod MapCopies
 pub mod ListedPairs
+pub mod StepLemmas
+pub mod OneWay
+pub mod FixedLemmas

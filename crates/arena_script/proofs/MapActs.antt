@@ -10,7 +10,9 @@ use Rattle.arena_chunks.specs.Source.{View}
 use Rattle.arena_store.specs.declared.block.Block.{Block}
 use Rattle.arena_chunks.proofs.Layers.{empty_after, frame_reflexive, placed_least}
 use Rattle.arena_items.specs.Room.{SamePlaces}
+use Rattle.arena_items.specs.Asks.{capacity_of, table_ask, solid}
 use Rattle.arena_items.specs.declared.room.AllocError.{AllocError}
+use Rattle.arena_items.proofs.Layers.{still, empty_solid, capacity_is, table_taken, table_asked}
 use Rattle.arena_hash.specs.Accounts.{spare_of}
 use Rattle.arena_hash.specs.Changes.{Puts, TakesOut, IsNew, is_value}
 use Rattle.arena_hash.specs.Finite.{Finite, has, value_of}
@@ -27,14 +29,16 @@ use Rattle.script_rules.specs.declared.commands.Command.TheVariants.{MakeMap, Bi
 use Rattle.script_rules.specs.declared.commands.ScriptReply.TheVariants.{Done, CapacityOverflow as Overflow}
 use Rattle.script_rules.proofs.EntryLemmas.{length_bind, length_unbind}
 use Rattle.arena_script.specs.Kinds.{pairs}
-use Rattle.arena_script.specs.Things.{Things, seen, content, pairs_of, credit_of, IsPairsIn}
+use Rattle.arena_script.specs.Things.{Things, object_in, block_of, seen, content, pairs_of, credit_of, IsPairsIn}
+use Rattle.arena_script.specs.Asks.{larger_map, asks}
+use Rattle.arena_script.specs.Places.{block_at}
+use Rattle.std.specs.Option.{option_map, option_and_then}
 use Rattle.arena_script.specs.Acts.{used, GivesThing, GivesNothing, CostsGiven}
 use Rattle.arena_script.specs.declared.thing.Thing.TheVariants as thing
-use Rattle.arena_script.proofs.AskLemmas.{first_asked}
 use Rattle.arena_script.proofs.GivingLemmas.{exchanged, kept, made}
 use Rattle.arena_script.proofs.ThingLemmas.{Holds}
 use Rattle.arena_script.proofs.PairFacts.{rising, get_pair, has_pair, pairs_with, pairs_without, pairs_none}
-use Rattle.arena_script.proofs.CostFacts.{IsRefused, still, same_used, nothing_given, block_given, block_refused}
+use Rattle.arena_script.proofs.CostFacts.{IsRefused, same_used, nothing_given, block_given, block_refused}
 
 -- ---- A new map
 
@@ -42,9 +46,9 @@ pub made_map : {things : Things} {name : ℕ} → (old : View) → get things na
     → GivesThing (MakeMap name) things old old name (thing.Map h) Done
 unfolding effect
 made_map old none {h} is =
-    let no_pairs = ap pairs_of (is.map_is old.memory) ∙ pairs_none in made none refl (rw (none, no_pairs) refl) (record {
+    let no_pairs = ap pairs_of (is.map_is old.memory) ∙ pairs_none in made none refl (rw (none, no_pairs) refl) refl (record {
+      takes = (empty_solid h.table.block is.block, still old);
       held = record { held = is.held old.memory; count = is.len ∙ sym (ap (λ (es : Entries ℕ). length es) no_pairs) };
-      room = refl;
       least = omega (arith, is.block);
       costs = nothing_given 0 0 (credit_of (thing.Map h)) old old (still old) (omega (arith, is.credit));
       frame = (empty_after old.memory old.memory [] [] [] h.table.block is.block).1 (frame_reflexive old.memory []);
@@ -104,9 +108,9 @@ unbind_gives {things} {old} {new} {name} {h} {w} {key} {old_value} holds small o
     let same : pairs_of (map_in pairs new.memory w) ≡ unbind (es holds) key = ap pairs_of out.becomes.map_is
     ∙ pairs_without (is holds) key small in
     let count : w.len ≡ length (unbind (es holds) key) = out.len ∙ fewer (has (is holds) (content key)) (has_pair (is holds) key small) in
-    let given = unbind_given holds key small in exchanged holds (rw (same, out.says) given) (record {
+    let given = unbind_given holds key small in exchanged holds (rw (same, out.says) given) refl (record {
+      takes = (ap (λ (t : Table ℕ ℕ). solid t.block) out.becomes.table, out.becomes.places);
       held = record { held = out.becomes.held; count = count ∙ sym (ap (λ (fs : Entries ℕ). length fs) same) };
-      room = refl;
       least = omega (arith, out.becomes.costs.bytes, ap (λ (t : Table ℕ ℕ). t.block.size) out.becomes.table);
       costs = nothing_given 0 (credit_of (thing.Map h)) (credit_of (thing.Map w)) old new out.becomes.places
           (omega (arith, out.becomes.costs.credit));
@@ -139,6 +143,14 @@ module _ (old new : View) (w : HashMap ℕ ℕ FxHasher) (value : ℕ) {things :
 
   abbrev credit : ℕ
   credit = credit_of (thing.Map h)
+
+  slots_are : capacity_of 9 (solid h.table.block) ≡ h.table.slots
+  slots_are = capacity_is 9 h.table.slots h.table.block (λ none. omega (arith, holds.held.held.handle.place.of_size, none))
+      (omega (arith, holds.held.held.handle.place.of_size))
+
+  asks_table : asks (Bind name key value) (seen old.memory things) (block_at things) ≡ table_ask 9 8 (growth_for there h.table.slots h.len)
+  asks_table = ap (λ o. larger_map key (option_map (object_in old.memory) o) (option_and_then (λ t. solid (block_of t)) o)) holds.found
+      ∙ (λ i. table_ask 9 8 (growth_for (has_pair (is holds) key small i) (slots_are i) (sym holds.held.count i)))
 
   credit_small : credit ≤ 2 ^ 40
   credit_small = omega (arith, few)
@@ -201,17 +213,24 @@ module _ (old new : View) (w : HashMap ℕ ℕ FxHasher) (value : ℕ) {things :
     ]
 
     pub bind_gives : GivesThing (Bind name key value) things old new name (thing.Map w) (number_or_nothing old_value)
-    bind_gives = let put = by_there there refl in exchanged holds (rw (same_pairs, puts.says) (bind_given holds key value small room))
-        (record { held = put_held; room = refl; least = put.least; costs = put.costs; frame = puts.frame })
+    bind_gives = let put = by_there there refl in exchanged holds (rw (same_pairs, puts.says) (bind_given holds key value small room)) asks_table
+        (record {
+          held = put_held;
+          takes = table_taken old new h.table.block 9 8 (λ (x : Option ℕ). w.table.block) (growth_for there h.table.slots h.len) old_value
+              puts.made;
+          least = put.least;
+          costs = put.costs;
+          frame = puts.frame;
+        })
 
   -- ---- It isn't.
 
   pub bind_gives_nothing : {e : AllocError} → Puts {X = Option ℕ} pairs old new h key value is_value w (Err e)
       → GivesNothing (Bind name key value) things old new e
-  bind_gives_nothing {e} puts = kept holds.found refl (bind_given holds key value small room)
-      (rw holds.found (first_asked old new h.table.block 9 8 (λ (x : Option ℕ). w.table.block) puts.err.1
-      (growth_for there h.table.slots h.len) e puts.made))
-      (by there refl)
+  bind_gives_nothing {e} puts = let refused = by there refl in
+      kept holds.found refl (bind_given holds key value small room) asks_table
+      (table_asked old new h.table.block 9 8 (λ (x : Option ℕ). w.table.block) (growth_for there h.table.slots h.len) e refused.fits puts.made)
+      refused
     where
       by : (b : Bool) → there ≡ b → IsRefused (cost_by holds b) credit old new e
       by true is_there = absurd (false≢true (puts.costs.there is_there).0)

@@ -1,12 +1,14 @@
 -- What copies of maps do.
 use Rattle.std.proofs.lemmas.Bool.Decides.{nat_tests}
-use Rattle.std.proofs.Common.{IsPermutation, ◌≡◌, ℕ, zero, suc, ◌+◌, ◌-◌, ◌*◌, ◌^◌, ◌<◌, ◌≤◌, refl, sym, ap, ◌∙◌, subst, arith, is_some, Ok, Err, Option, Some, None, Result, List, [], ◌∷◌}
+use Rattle.std.proofs.Common.{IsPermutation, ◌≡◌, ℕ, zero, suc, ◌+◌, ◌-◌, ◌*◌, ◌^◌, ◌<◌, ◌≤◌, max, refl, sym, ap, ◌∙◌, subst, arith, is_some, Ok, Err, Option, Some, None, Result, List, [], ◌∷◌}
 use Rattle.std.proofs.Math.Path.{fun_ext}
 use Rattle.arena_chunks.specs.Memory.{Memory}
 use Rattle.arena_chunks.specs.Source.{View}
 use Rattle.arena_chunks.specs.Frame.{Frame}
 use Rattle.arena_store.specs.declared.block.Block.{Block}
+use Rattle.arena_items.specs.Asks.{solid, Asked, TakesBlock, refusal}
 use Rattle.arena_items.specs.declared.room.AllocError.{AllocError}
+use Rattle.arena_items.proofs.Layers.{empty_solid}
 use Rattle.arena_hash.specs.Accounts.{unit_of}
 use Rattle.arena_hash.specs.Finite.{has, value_of}
 use Rattle.arena_hash.specs.Maps.{IsMapIn, map_in, pairs_in}
@@ -26,7 +28,10 @@ use Rattle.arena_script.specs.Kinds.{pairs}
 use Rattle.arena_script.specs.Things.{Things, content, pairs_of, entries_below, IsPairsIn, credit_of}
 use Rattle.arena_script.specs.Acts.{GivesThing, GivesNothing}
 use Rattle.arena_script.specs.declared.thing.Thing.TheVariants as thing
-use Rattle.arena_script.proofs.AskLemmas.{alone}
+use Rattle.arena_script.proofs.AskLemmas.{copy_taken, copy_refused}
+use Rattle.arena_script.specs.Asks.{table_of, table_for}
+use Rattle.arena_rules.proofs.SizeLemmas.{next_power}
+use Rattle.arena_rules.specs.Search.{power_at_least}
 use Rattle.arena_script.proofs.CopyActs.{copy_gives, copy_gives_nothing}
 use Rattle.arena_script.proofs.GivingLemmas.{IsGiven}
 use Rattle.arena_script.proofs.CostFacts.{IsRefused, same_used, nothing_given}
@@ -75,6 +80,10 @@ module _ (old new : View) (other : ℕ) {things : Things} {name : ℕ} {h : Map}
   few : h.len < 2 ^ 32
   few = omega (arith, holds.is.0, holds.held.count)
 
+  -- the slots of a new table
+  slots_are : (n slots : ℕ) → n < 2 ^ 32 → IsSlotsFor (suc n) slots → slots ≡ power_at_least (max (2 * suc n) 8)
+  slots_are n slots less are = next_power (max (2 * suc n) 8) slots (omega (arith, less)) are
+
   -- only the table is asked for
   table_asked : (blocks : List Block) (end : Option AllocError) → AsksFor (map_kind.asks old.memory h) old new blocks end
       → AsksFor (table_ask pairs h.len ∷ []) old new blocks end
@@ -113,11 +122,11 @@ module _ (old new : View) (other : ℕ) {things : Things} {name : ℕ} {h : Map}
     map_frame b is = subst (λ bs. Frame old.memory new.memory [] bs) (is ∙ ap (λ (b : Block). b ∷ []) (sym (own b is))) copies.placed.frame
 
     by_len : (n : ℕ) → h.len ≡ n → AsksFor (table_ask pairs n ∷ []) old new copies.blocks None
-        → IsGiven cost old new None (thing.Map copy)
+        → IsGiven cost (table_for n) old new None (thing.Map copy)
     by_len zero none (b, rest, empty, is, (last, empties, same)) =
         let whole = is ∙ ap (λ (bs : List Block). b ∷ bs) empties in record {
           held = map_held;
-          room = refl;
+          takes = (empty_solid copy.table.block (ap (λ (b : Block). b.size) (own b whole) ∙ empty), same);
           least = omega (arith, same_used old new same, empty, ap (λ (b : Block). b.size) (own b whole));
           costs = nothing_given cost 0 (credit_of (thing.Map copy)) old new same (omega (arith, same_len, none));
           frame = map_frame b whole;
@@ -128,7 +137,8 @@ module _ (old new : View) (other : ℕ) {things : Things} {name : ℕ} {h : Map}
         let is = taken old new (slots * 9) 8 copies.blocks cost one layout (omega arith) (omega (arith, within, some, few))
         (credit_of (thing.Map copy)) (omega (arith, within, some, same_len)) takes in record {
           held = map_held;
-          room = refl;
+          takes = subst (λ k. TakesBlock (table_of k) None old new (solid copy.table.block)) (slots_are n slots (omega (arith, some, few)) are)
+              (copy_taken old new (slots * 9) 8 copies.blocks copy.table.block (is.is ∙ ap (λ (b : Block). b ∷ []) (sym (own is.block is.is))) takes);
           least = omega (arith, is.least, is.of_size, ap (λ (b : Block). b.size) (own is.block is.is));
           costs = is.costs;
           frame = map_frame is.block is.is;
@@ -136,7 +146,8 @@ module _ (old new : View) (other : ℕ) {things : Things} {name : ℕ} {h : Map}
 
     pub map_copy_gives : GivesThing (CopyTo name other) things old new other (thing.Map copy) Done
     map_copy_gives = copy_gives holds none (ap (λ k. 256 * k) (sym holds.held.count)) (thing.Map copy) (ap AMap same_pairs)
-        (by_len h.len refl (table_asked copies.blocks None copies.placed.asked))
+        (subst (λ n. IsGiven cost (table_for n) old new None (thing.Map copy)) holds.held.count
+        (by_len h.len refl (table_asked copies.blocks None copies.placed.asked)))
 
   -- Why a map isn't copied.
   map_denied : (blocks : List Block) (e : AllocError) (n : ℕ) → h.len ≡ n → AsksFor (table_ask pairs n ∷ []) old new blocks (Some e)
@@ -148,8 +159,15 @@ module _ (old new : View) (other : ℕ) {things : Things} {name : ℕ} {h : Map}
       not_taken old new (slots * 9) 8 blocks cost one layout (omega arith) (omega (arith, within, some, few)) e
       (omega (arith, within, some)) takes
 
+  map_refused : (blocks : List Block) (e : AllocError) (n : ℕ) → h.len ≡ n → AsksFor (table_ask pairs n ∷ []) old new blocks (Some e)
+      → Asked (table_for n) old new (refusal e)
+  map_refused blocks e zero none (b, rest, empty, is, (last, empties, same)) = absurd (let no = last in cc)
+  map_refused blocks e (suc n) some (slots, are, takes) =
+      subst (λ k. Asked (table_of k) old new (refusal e)) (slots_are n slots (omega (arith, some, few)) are)
+      (copy_refused old new (slots * 9) 8 blocks e takes)
+
   pub map_copy_gives_nothing : {e : AllocError} → Cloned (Err e) → GivesNothing (CopyTo name other) things old new e
   map_copy_gives_nothing {e} copies =
       let asked = table_asked copies.blocks (Some e) copies.placed.asked in
       copy_gives_nothing holds none (ap (λ k. 256 * k) (sym holds.held.count))
-      (alone old new copies.blocks e (table_ask pairs h.len) asked) (map_denied copies.blocks e h.len refl asked)
+      (subst (λ n. Asked (table_for n) old new (refusal e)) holds.held.count (map_refused copies.blocks e h.len refl asked)) (map_denied copies.blocks e h.len refl asked)

@@ -1,20 +1,25 @@
 -- A script, command after command.
 use Rattle.std.proofs.lemmas.Bool.Decides.{nat_tests}
-use Rattle.std.proofs.Common.{◌≡◌, ℕ, ◌+◌, ◌^◌, refl, sym, ap, ◌∙◌, subst, arith, Ok, Err, List, [], ◌∷◌, ◌++◌, take}
+use Rattle.std.proofs.Common.{◌≡◌, ℕ, ◌+◌, ◌^◌, refl, sym, ap, ◌∙◌, subst, arith, Ok, Err, Option, List, [], ◌∷◌, ◌++◌, take}
 use Rattle.arena_chunks.specs.Source.{View}
 use Rattle.arena_items.specs.Costs.{Costs}
 use Rattle.arena_items.specs.declared.room.AllocError.{AllocError}
-use Rattle.arena_items.proofs.Layers.{costs_ok, costs_then}
-use Rattle.script_rules.specs.Objects.{Objects}
+use Rattle.arena_items.proofs.Layers.{still, costs_ok, costs_then}
+use Rattle.std.proofs.Math.Path.{fun_ext}
+use Rattle.arena_chunks.specs.Memory.{Memory}
+use Rattle.script_rules.specs.Objects.{get, Object, Objects}
+use Rattle.script_rules.specs.Effects.{effect}
 use Rattle.script_rules.specs.Machine.{step, run, run_from, sum, cost_of}
 use Rattle.script_rules.specs.declared.commands.Command.{Command}
 use Rattle.script_rules.specs.declared.commands.ScriptReply.{ScriptReply}
 use Rattle.script_rules.proofs.RunLemmas.{goes_on, no_objects}
-use Rattle.arena_script.specs.Things.{Things, objects_in}
-use Rattle.arena_script.specs.Rooms.{Rooms, rooms_step, rooms_from, rooms_after, HaveRooms}
+use Rattle.arena_script.specs.Things.{Things, objects_in, seen}
+use Rattle.arena_script.specs.Asks.{Blocks, asks}
+use Rattle.arena_script.specs.Places.{Places, AreServed, block_at, no_blocks}
+use Rattle.arena_script.proofs.ThingLemmas.{get_mapped}
 use Rattle.arena_script.specs.Acts.{used, far, CostsGiven}
 use Rattle.arena_script.specs.Serves.{Serves, Stops, IsAfter, KeepsKind, credits_of}
-use Rattle.arena_script.proofs.CostFacts.{still, nothing_given}
+use Rattle.arena_script.proofs.CostFacts.{nothing_given}
 
 -- ---- One more command
 
@@ -33,12 +38,31 @@ one_more : (script : List Command) (i : ℕ) (c : Command) → take (i + 1) scri
 unfolding run_from
 one_more script i c is = grind (arith, nat_tests, goes_on, sum_append)
 
--- the capacities after one more command
-rooms_more : (objects : Objects) (rooms : Rooms) (script : List Command) (c : Command)
-    → rooms_from objects rooms (script ++ c ∷ []) ≡ rooms_step c (run_from objects script).objects (rooms_from objects rooms script)
-unfolding rooms_from run_from
-rooms_more objects rooms [] c = refl
-rooms_more objects rooms (d ∷ script) c = rooms_more (step d objects).objects (rooms_step d objects rooms) script c
+-- the objects as the plain machine has them
+pub seen_is : (m : Memory) (things : Things) {objects : Objects} → objects_in m things ≡ objects → seen m things ≡ get objects
+seen_is m things is = sym (fun_ext (get_mapped m things)) ∙ ap (λ (o : Objects). get o) is
+
+places_seen : (m : Memory) (things : Things) {objects : Objects} (blocks later : Blocks) (old new : View) (c : Command)
+    → objects_in m things ≡ objects → Places (effect c (seen m things)) (asks c (seen m things) blocks) blocks old later new
+    → Places (effect c (get objects)) (asks c (get objects) blocks) blocks old later new
+places_seen m things {objects} blocks later old new c is places =
+    subst (λ (of : ℕ → Option Object). Places (effect c of) (asks c of blocks) blocks old later new) (seen_is m things is) places
+
+-- one more command was served
+served_more : (commands : List Command) (objects : Objects) (blocks : Blocks) (old : View) (among later : Blocks) (mid new : View) (c : Command)
+    → AreServed commands objects blocks old among mid
+    → Places (effect c (get (run_from objects commands).objects)) (asks c (get (run_from objects commands).objects) among) among mid later new
+    → AreServed (commands ++ c ∷ []) objects blocks old later new
+unfolding AreServed run_from
+served_more [] objects blocks old among later mid new c (is, same) places = (
+  later,
+  new,
+  subst (λ b. Places (effect c (get objects)) (asks c (get objects) b) b old later new) is
+      (subst (λ v. Places (effect c (get objects)) (asks c (get objects) among) among v later new) same places),
+  (refl, refl),
+)
+served_more (d ∷ commands) objects blocks old among later mid new c (first, between, takes, rest) places =
+    (first, between, takes, served_more commands (step d objects).objects first between among later mid new c rest places)
 
 pub none_replied : [] ≡ (run []).replies
 unfolding run_from
@@ -46,9 +70,10 @@ none_replied = refl
 
 -- Before the first command there are no things.
 pub after_none : (script : List Command) (start : View) → used start ≡ 0 → IsAfter script start start [] 0
-unfolding run_from rooms_from
+unfolding run_from AreServed
 after_none script start unused =
-    let costs = nothing_given 0 0 0 start start (still start) (omega arith) in grind (arith, costs, no_objects)
+    let costs = nothing_given 0 0 0 start start (still start) (omega arith) in
+    let served : AreServed [] [] no_blocks start (block_at []) start = (refl, refl) in grind (arith, costs, no_objects, served)
 
 kind_then : (old mid new : View) → KeepsKind old.memory mid.memory → KeepsKind mid.memory new.memory → KeepsKind old.memory new.memory
 kind_then old mid new one two = grind (arith, one, two)
@@ -75,9 +100,9 @@ module _ {script : List Command} {start now : View} {things : Things} {i : ℕ} 
   after_more {next} {later} serves = record {
     are = serves.are;
     objects = serves.objects ∙ ap (λ o. (step c o).objects) after.objects ∙ sym more.objects;
-    rooms = subst (λ rooms. HaveRooms later rooms)
-        (ap (λ o. rooms_step c o (rooms_after (take i script))) after.objects ∙ sym (rooms_more [] (λ name. 0) (take i script) c)
-        ∙ sym (ap rooms_after at)) (serves.rooms (rooms_after (take i script)) after.rooms);
+    served = subst (λ s. AreServed s [] no_blocks start (block_at later) next) (sym at)
+        (served_more (take i script) [] no_blocks start (block_at things) (block_at later) now next c after.served
+        (places_seen now.memory things (block_at things) (block_at later) now next c after.objects serves.places));
     least = omega (arith, serves.least, after.least);
     costs = subst (λ n. CostsGiven n 0 (credits_of later) start next) cost_more
         (costs_then far (cost_of (take i script)) cost 0 (credits_of things) (credits_of later) start now next (Ok tt) (Ok tt)

@@ -1,15 +1,17 @@
 -- What a command leaves of all things.
 use Rattle.std.proofs.lemmas.Bool.Decides.{nat_tests}
 use Rattle.std.proofs.Common.{◌≡◌, ◌≢◌, ℕ, ◌-◌, ◌≤◌, refl, sym, ap, ◌∙◌, subst, arith, Bool, true, false, Option, Some, None, Result, Ok, Err, inl, inr, [], ◌∷◌, eqb-true}
-use Rattle.std.specs.Prelude.{IfSome, ◌==◌, ◌||◌, if◌then◌else◌, IsTrue}
-use Rattle.std.specs.Option.{option_map}
+use Rattle.std.specs.Prelude.{◌⊎◌, IfSome, ◌==◌, ◌||◌, if◌then◌else◌, IsTrue}
+use Rattle.std.specs.Option.{option_map, option_and_then}
 use Rattle.arena_rules.specs.State.{State, used_bytes}
 use Rattle.arena_chunks.specs.Memory.{Memory}
 use Rattle.arena_chunks.specs.Source.{View}
 use Rattle.arena_chunks.proofs.Layers.{blocks_turned}
+use Rattle.arena_items.specs.Asks.{Ask, NoBlock, Fresh, Larger, solid, Asked, TakesBlock, refusal}
 use Rattle.arena_items.specs.declared.room.AllocError.{AllocError}
 use Rattle.arena_items.specs.declared.room.AllocError.TheVariants.{OutOfMemory}
-use Rattle.script_rules.specs.Objects.{get, bind, unbind, are_rising, Object, AText, Objects, AreObjects}
+use Rattle.arena_items.proofs.Layers.{still}
+use Rattle.script_rules.specs.Objects.{get, bind, unbind, are_rising, Objects, AreObjects}
 use Rattle.script_rules.specs.Effects.{effect}
 use Rattle.script_rules.specs.Effects as effects
 use Rattle.script_rules.specs.Machine.{Answer, settle, step}
@@ -20,14 +22,18 @@ use Rattle.script_rules.proofs.EntryLemmas.{rising_bind, rising_unbind, total_ge
 use Rattle.script_rules.proofs.LookupLemmas.{get_bind, get_unbind, same_by_get}
 use Rattle.script_rules.proofs.RunLemmas.{step_keeps}
 use Rattle.arena_script.specs.Things.{Things, IsThingIn, object_in, objects_in, block_of, blocks_of, seen, AreHeldApart, AreThings, size_of, size_held, credit_of, credit_held}
-use Rattle.arena_script.specs.Rooms.{Rooms, room_of, room_in, room_held, rooms_then, rooms_step, HaveRooms}
 use Rattle.arena_script.specs.Wants.{tells_much, takes_room}
+use Rattle.arena_script.specs.Asks.{asks}
+use Rattle.arena_script.specs.Places.{block_at, with_block, Places, DeniedBlock, RunsOut}
+use Rattle.arena_chunks.specs.Answers.Answer.{Placed}
+use Rattle.arena_store.specs.declared.block.Block.{Block}
+use Rattle.std.proofs.Math.Path.{fun_ext}
 use Rattle.arena_script.specs.Acts.{far, GivesThing, GivesNothing, HasNoPlace, Acts, CostsGiven, CostsRefused}
 use Rattle.arena_script.specs.Serves.{Serves, Stops, ServesOrStops, Settles, credits_of, KeepsKind}
 use Rattle.arena_script.specs.declared.act.Act.{Act}
 use Rattle.arena_script.specs.declared.act.Act.TheVariants.{Tells, Gives, LetsGo}
 use Rattle.arena_script.specs.declared.thing.Thing.{Thing}
-use Rattle.arena_script.proofs.CostFacts.{still, nothing_given, costs_beside}
+use Rattle.arena_script.proofs.CostFacts.{nothing_given, costs_beside}
 use Rattle.arena_script.proofs.ThingLemmas.{StaysThing, get_mapped, effect_seen, rising_mapped, others_stay, seen_again, other_name}
 
 or_right : (a b : Bool) → IsTrue b → IsTrue (a || b)
@@ -105,6 +111,33 @@ module _ {things later : Things} {old new : Memory} {name : ℕ} {o : Option Thi
   changed_things : AreObjects (objects_in new later) → AreThings new later
   changed_things objects = record { rising = is.rising; held = held_then; apart = apart_then; objects = objects }
 
+-- ---- The blocks of names
+
+abbrev block_in : Option Thing → Option Block
+block_in o = option_and_then (λ t. solid (block_of t)) o
+
+block_chosen : (b : Bool) (o u : Option Thing) → block_in (if b then o else u) ≡ (if b then block_in o else block_in u)
+block_chosen true o u = refl
+block_chosen false o u = refl
+
+block_bound : (things : Things) (name : ℕ) (t : Thing) → block_at (bind things name t) ≡ with_block (block_at things) name (solid (block_of t))
+block_bound things name t = fun_ext (λ q. ap block_in (get_bind things name t q) ∙ block_chosen (q == name) (Some t) (get things q))
+
+block_unbound : (things : Things) (name : ℕ) → block_at (unbind things name) ≡ with_block (block_at things) name None
+block_unbound things name = fun_ext (λ q. ap block_in (get_unbind things name q) ∙ block_chosen (q == name) None (get things q))
+
+-- What is taken is taken, if memory runs out then.
+taken_out : (ask : Ask Block) (before after : Option Block) (old new : View) → TakesBlock ask before old new after
+    → (new.memory.state ≡ old.memory.state) ⊎ ((block : Block) × Asked ask old new (Placed block))
+taken_out NoBlock before after old new takes = inl takes.1.state
+taken_out (Fresh size align) before after old new takes = inr (takes.0, takes.2)
+taken_out (Larger c size align) before after old new takes = inr (takes.0, takes.2)
+
+out_still : (e : effects.Effect) (ask : Ask Block) (old new : View) → new.memory.state ≡ old.memory.state → RunsOut e ask old new
+out_still (effects.Tells reply) ask old new same = same
+out_still (effects.Gives name object reply cost) ask old new same = inl same
+out_still (effects.LetsGo name) ask old new same = same
+
 -- ---- A name gets a thing
 
 module _ {command : Command} {things : Things} {old new : View} {name : ℕ} {t : Thing} {reply : ScriptReply}
@@ -139,34 +172,6 @@ module _ {command : Command} {things : Things} {old new : View} {name : ℕ} {t 
   kind_stays : KeepsKind old.memory new.memory
   kind_stays = record { is_growing = gives.frame.is_growing; allocated = gives.frame.allocated }
 
-  -- The text that the name has now has the capacity that the command determines, as have those of all other names.
-  room_is : (cap : ℕ) → IfSome (get things name) (λ u. room_in u ≡ cap)
-      → room_in t ≡ room_of (object_in new.memory t) (get before name) cap
-  room_is cap was = gives.room ∙ same (get things name) was
-      ∙ ap (λ o. room_of (object_in new.memory t) o cap) (sym (get_mapped old.memory things name))
-    where
-      none : (object : Object) (n k : ℕ) → room_of object None n ≡ room_of object None k
-      none (AText bytes) n k = refl
-      none _ n k = refl
-
-      same : (o : Option Thing) → IfSome o (λ u. room_in u ≡ cap)
-          → room_of (object_in new.memory t) (option_map (object_in old.memory) o) (room_held o)
-          ≡ room_of (object_in new.memory t) (option_map (object_in old.memory) o) cap
-      same None is = none (object_in new.memory t) 0 cap
-      same (Some u) is = ap (room_of (object_in new.memory t) (Some (object_in old.memory u))) is
-
-  rooms_given : (rooms : Rooms) → HaveRooms things rooms → HaveRooms later (rooms_step command before rooms)
-  rooms_given rooms have q =
-      subst (λ e. IfSome (get later q) (λ u. room_in u ≡ rooms_then e before rooms q))
-      (sym (effect_seen command old.memory things ∙ gives.effect_is))
-      (subst (λ o. IfSome o (λ u. room_in u
-      ≡ (if q == name then room_of (object_in new.memory t) (get before name) (rooms name) else rooms q))) (sym (get_bind things name t q))
-      (elim (q == name) as (λ b. IfSome (if b then Some t else get things q) (λ u. room_in u
-      ≡ (if b then room_of (object_in new.memory t) (get before name) (rooms name) else rooms q))) [
-        | true ↦ room_is (rooms name) (have name)
-        | false ↦ have q
-      ]))
-
   -- the credits of the other things stay
   costs_all : (kept : ℕ) → kept ≤ credits_of later → CostsGiven gives.cost (credits_of things) kept old new
   costs_all kept less =
@@ -174,11 +179,18 @@ module _ {command : Command} {things : Things} {old new : View} {name : ℕ} {t 
       (credits_of things - credit_held (get things name)) old new (Ok tt) (omega (arith, within))
       (omega (arith, less, within, total_bind credit_of things name t are.rising)) gives.costs
 
+  abbrev ask : Ask Block
+  ask = asks command (seen old.memory things) (block_at things)
+
+  places_then : Places (effect command (seen old.memory things)) ask (block_at things) old (block_at later) new
+  places_then = subst (λ e. Places e ask (block_at things) old (block_at later) new) (sym gives.effect_is)
+      (solid (block_of t), block_bound things name t, gives.takes)
+
   pub given_serves : Serves command old new things later reply
   given_serves =
       let all = changed_things changed (subst AreObjects (sym objects_then) (step_keeps command before are.objects)) in
       let costs = costs_all (credits_of later) (omega arith) in
-      grind (arith, answer_is, objects_then, all, rooms_given, gives.least, total_bind size_of things name t are.rising, costs, kind_stays)
+      grind (arith, answer_is, objects_then, all, places_then, gives.least, total_bind size_of things name t are.rising, costs, kind_stays)
 
   -- If memory runs out for the name, it is a new one.
   pub given_stops : get things name ≡ None → Stops command old new things OutOfMemory
@@ -186,7 +198,9 @@ module _ {command : Command} {things : Things} {old new : View} {name : ℕ} {t 
       let taken = or_right (tells_much command) (takes_room command) (gives.taken none) in
       let empty : size_held (get things name) ≡ 0 = ap size_held none in
       let costs = costs_exhausted (costs_all 0 (omega arith)) in
-      grind (arith, taken, empty, gives.least, costs, answer_is, kind_stays)
+      let left : RunsOut (effect command (seen old.memory things)) ask old new = subst (λ e. RunsOut e ask old new) (sym gives.effect_is)
+      (taken_out ask (block_at things name) (solid (block_of t)) old new gives.takes) in
+      grind (arith, taken, empty, gives.least, costs, answer_is, kind_stays, left)
 
 -- ---- Nothing changes, or a name is removed
 
@@ -201,7 +215,10 @@ module _ (command : Command) (a : View) {things : Things} (are : AreThings a.mem
       ap (settle here) (effect_seen command a.memory things ∙ is) in
       let same = effect_seen command a.memory things ∙ is in
       let costs = nothing_given 0 (credits_of things) (credits_of things) a a (still a) (omega arith) in
-      grind (arith, answer, same, are, costs, same_kind a)
+      let places : Places (effect command (seen a.memory things)) (asks command (seen a.memory things) (block_at things)) (block_at things) a
+      (block_at things) a = subst (λ e. Places e (asks command (seen a.memory things) (block_at things)) (block_at things) a (block_at things) a)
+      (sym is) (refl, refl) in
+      grind (arith, answer, same, are, costs, places, same_kind a)
 
   module _ {name : ℕ} (is : effect command (seen a.memory things) ≡ effects.LetsGo name) where
     gone : step command here ≡ record { reply = Done; cost = 0; objects = unbind here name }
@@ -224,16 +241,16 @@ module _ (command : Command) (a : View) {things : Things} (are : AreThings a.mem
     objects_left = objects_are left (unbind here name) (rising_unbind here name are.objects.rising) (get_unbind here name)
         ∙ sym (ap (λ (x : Answer). x.objects) gone)
 
-    rooms_left : (rooms : Rooms) → HaveRooms things rooms → HaveRooms (unbind things name) (rooms_step command here rooms)
-    unfolding effect object_in
-    rooms_left rooms have q = grind (arith, nat_tests, effect_seen, get_unbind)
-
     pub let_go_serves : Serves command a a things (unbind things name) Done
     let_go_serves =
         let less = total_unbind credit_of things name in
         let costs = nothing_given 0 (credits_of things) (credits_of (unbind things name)) a a (still a) (omega (arith, less)) in
         let all = changed_things left (subst AreObjects (sym objects_left) (step_keeps command here are.objects)) in
-        grind (arith, gone, objects_left, all, rooms_left, total_unbind size_of things name, costs, same_kind a)
+        let places : Places (effect command (seen a.memory things)) (asks command (seen a.memory things) (block_at things)) (block_at things) a
+        (block_at (unbind things name)) a =
+        subst (λ e. Places e (asks command (seen a.memory things) (block_at things)) (block_at things) a (block_at (unbind things name)) a)
+        (sym is) (block_unbound things name, refl) in
+        grind (arith, gone, objects_left, all, places, total_unbind size_of things name, costs, same_kind a)
 
 -- ---- Nothing is given
 
@@ -250,7 +267,9 @@ nothing_stops {command} {things} {old} {new} {e} gives =
           (costs_beside far gives.cost (credit_held (get things gives.name)) (credit_held (get things gives.name)) (credits_of things) 0
           (credits_of things - credit_held (get things gives.name)) old new (Err e)
           (omega (arith, total_get credit_of things gives.name)) (omega arith) gives.costs);
-      asked = λ k is. gives.asked;
+      asked = λ k is. subst (λ f. DeniedBlock f (asks command (seen old.memory things) (block_at things)) old new k) (sym gives.effect_is)
+          (subst (λ x. Asked (asks command (seen old.memory things) (block_at things)) old new (refusal x)) is gives.asked);
+      left = out_still (effect command (seen old.memory things)) (asks command (seen old.memory things) (block_at things)) old new gives.same;
       denied = λ k is. no_place_within
           (omega (arith, ap (λ (a : Answer). a.cost) answer, total_get credit_of things gives.name)) (gives.denied k is);
       kind = rw gives.same (record { is_growing = refl; allocated = λ stays. refl });
@@ -258,7 +277,10 @@ nothing_stops {command} {things} {old} {new} {e} gives =
 
 -- If memory ran out for the reply, nothing changed.
 untold_stops : {command : Command} {things : Things} {old : View} → IsTrue (tells_much command) → Stops command old old things OutOfMemory
-untold_stops {command} {things} {old} much = grind (arith, nat_tests, costs_exhausted, nothing_given, still)
+untold_stops {command} {things} {old} much =
+    let left : RunsOut (effect command (seen old.memory things)) (asks command (seen old.memory things) (block_at things)) old old =
+    out_still (effect command (seen old.memory things)) (asks command (seen old.memory things) (block_at things)) old old refl in
+    grind (arith, nat_tests, costs_exhausted, nothing_given, still, left)
 
 -- ---- The names after a command
 

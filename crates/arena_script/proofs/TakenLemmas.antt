@@ -14,9 +14,10 @@ use Rattle.arena_chunks.proofs.Layers.{placed_least}
 use Rattle.arena_items.specs.Room.{RoomAnswer, SamePlaces}
 use Rattle.arena_items.specs.declared.room.AllocError.{AllocError}
 use Rattle.arena_items.specs.declared.room.AllocError.TheVariants.{AllocErr, OutOfMemory}
+use Rattle.arena_items.proofs.Layers.{still}
 use Rattle.arena_clone.specs.Asks.{Takes, Follows, AsksFor}
 use Rattle.arena_script.specs.Acts.{used, far, CostsGiven, HasNoPlace}
-use Rattle.arena_script.proofs.CostFacts.{IsRefused, still, same_used, costs_from, block_given, block_refused}
+use Rattle.arena_script.proofs.CostFacts.{IsRefused, same_used, costs_from, block_given, block_refused}
 
 -- A list of one block is a permutation only of itself.
 pub one_block : (b c : Block) → IsPermutation (b ∷ []) (c ∷ []) → c ≡ b

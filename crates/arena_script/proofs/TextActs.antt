@@ -1,13 +1,15 @@
 -- What commands on texts do.
-use Rattle.std.proofs.Common.{IsTrue, Result, ◌≡◌, ℕ, ◌+◌, ◌-◌, ◌*◌, ◌^◌, ◌<◌, ◌≤◌, refl, sym, ap, ◌∙◌, arith, true, false, Ok, Err, Some, None, List, [], ◌∷◌, ◌++◌, length, length-append}
+use Rattle.std.proofs.Common.{IsTrue, Result, ◌≡◌, ℕ, ◌+◌, ◌*◌, ◌^◌, ◌<◌, ◌≤◌, refl, sym, ap, ◌∙◌, arith, true, false, Ok, Err, None, List, [], ◌∷◌, ◌++◌, length, length-append}
 use Rattle.std.specs.Prelude.{nat_lt}
 use Rattle.std.specs.List.{list_any}
 use Rattle.std.proofs.lemmas.Bool.Decides.{nat_tests}
 use Rattle.arena_chunks.specs.Memory.{Memory}
 use Rattle.arena_chunks.specs.Source.{View}
+use Rattle.arena_items.specs.Asks.{capacity_of, room_ask, solid}
 use Rattle.arena_items.specs.Room.{capacity_after}
 use Rattle.arena_items.specs.declared.room.AllocError.{AllocError}
 use Rattle.arena_items.specs.declared.room.Growth.{Growth}
+use Rattle.arena_items.proofs.Layers.{still, empty_solid, capacity_is, growth_taken, growth_asked}
 use Rattle.arena_text.specs.Builders.{IsBuilderIn, builder_bytes, no_block}
 use Rattle.arena_store.specs.declared.block.Block.{Block}
 use Rattle.arena_chunks.proofs.Layers.{empty_after, frame_reflexive}
@@ -19,15 +21,15 @@ use Rattle.script_rules.specs.Effects.{Effect, Tells, Gives, joins, not_ascii, e
 use Rattle.script_rules.specs.declared.commands.Command.{Command}
 use Rattle.script_rules.specs.declared.commands.Command.TheVariants.{MakeText, Byte, Front, Append}
 use Rattle.script_rules.specs.declared.commands.ScriptReply.TheVariants.{Done, CapacityOverflow}
-use Rattle.arena_script.specs.Things.{Things, seen, credit_of}
+use Rattle.arena_script.specs.Things.{Things, object_in, block_of, seen, credit_of}
 use Rattle.arena_script.specs.Wants.{takes_room}
-use Rattle.arena_script.specs.Rooms.{text_room}
 use Rattle.arena_script.specs.Asks.{asks, longer_text}
+use Rattle.arena_script.specs.Places.{block_at}
+use Rattle.std.specs.Option.{option_map, option_and_then}
 use Rattle.arena_script.specs.Acts.{Acts, GivesThing, GivesNothing}
 use Rattle.arena_script.specs.declared.act.Act.{Act}
 use Rattle.arena_script.specs.declared.thing.Thing.TheVariants as thing
-use Rattle.arena_script.proofs.CostFacts.{IsPaid, still, nothing_given, grown_least, grown_costs, grown_refused}
-use Rattle.arena_script.proofs.AskLemmas.{growth_asked}
+use Rattle.arena_script.proofs.CostFacts.{IsPaid, nothing_given, grown_least, grown_costs, grown_refused}
 use Rattle.arena_script.proofs.GivingLemmas.{exchanged, kept, made}
 use Rattle.arena_script.proofs.ThingLemmas.{Holds}
 use Rattle.arena_script.proofs.TextLemmas.{GrowthRule, later, text_paid, text_place}
@@ -52,7 +54,7 @@ HaveLengths = (m : Memory) (t : StringBuilder) → IsBuilderIn m t → t.len ≡
 pub record Puts {things : Things} {m : Memory} {name : ℕ} {t : StringBuilder} (h : Holds things m name (thing.Text t))
     (command : Command) (more list : List ℕ) : Type 0 where
   pub taken : IsTrue (takes_room command)
-  pub asks_is : asks command m things ≡ longer_text (length more) (get things name)
+  pub asks_is : asks command (seen m things) (block_at things) ≡ longer_text (length more) (seen m things name) (block_at things name)
   pub effect_is : effect command (seen m things)
       ≡ joins more (length (builder_bytes m t)) (Gives name (AText list) Done (4 * length more))
   pub longer : length list ≡ length (builder_bytes m t) + length more
@@ -100,18 +102,29 @@ module _ (rule : GrowthRule) (lengths : HaveLengths) (old new : View) (u : Strin
   paid : IsPaid 1 1 t.cap change (4 * n) (credit_of (thing.Text t)) credit × IsRoomFor (t.len + n) (capacity_after change t.cap)
   paid = text_paid rule t n h.held small
 
-  capacity_is : (bytes : List ℕ) → n ≡ length bytes - length (builder_bytes old.memory t)
-      → capacity_after change t.cap ≡ text_room bytes (Some (AText (builder_bytes old.memory t))) t.cap
-  capacity_is bytes added = λ i. capacity_after (amortised_growth t.cap (has i) (added i)) t.cap
+  sized : t.block.size ≡ t.cap
+  sized = h.held.held.place.of_size
+
+  none : t.block.size ≡ 0 → t.cap ≡ 0
+  none is = omega (arith, sized, is)
+
+  some : 0 < t.block.size → 0 < t.cap
+  some is = omega (arith, sized, is)
+
+  capacity : capacity_of 1 (solid t.block) ≡ t.cap
+  capacity = capacity_is 1 t.cap t.block none (omega (arith, sized))
+
+  asks_room : asks command (seen old.memory things) (block_at things) ≡ room_ask 1 1 (solid t.block) change
+  asks_room = puts.asks_is ∙ ap (λ o. longer_text n (option_map (object_in old.memory) o) (option_and_then (λ u. solid (block_of u)) o)) h.found
+      ∙ (λ i. room_ask 1 1 (solid t.block) (amortised_growth (capacity i) (sym has i) n))
 
   pub put_gives : Grows old new t change list u (Ok tt) → GivesThing command things old new name (thing.Text u) Done
   put_gives grows =
       let place = text_place rule t n h.held small in
       let longer : length list ≡ t.len + n = omega (arith, puts.longer, has) in
-      exchanged {cost = 4 * n} h (rw grows.bytes_are (put_given h lengths puts fits)) (record {
+      exchanged {cost = 4 * n} h (rw grows.bytes_are (put_given h lengths puts fits)) asks_room (record {
+        takes = growth_taken old new t.block 1 1 t.cap (λ (x : Unit {0}). u.block) none some change tt grows.made;
         held = record { held = grows.held; room = rw (grows.cap, grows.len, longer) paid.1 };
-        room = grows.cap ∙ capacity_is (builder_bytes new.memory u)
-            (omega (arith, ap (λ (bytes : List ℕ). length bytes) grows.bytes_are, longer, has));
         least = grown_least old new t.block 1 1 t.cap (λ (x : Unit {0}). u.block) (4 * n) (credit_of (thing.Text t)) credit one place
             (omega arith) change tt paid.0 (omega (arith, grows.held.place.of_size, grows.cap)) grows.made;
         costs = rw (grows.cap, grows.len, longer) (grown_costs old new t.block 1 1 t.cap (λ (x : Unit {0}). u.block) (4 * n)
@@ -120,12 +133,12 @@ module _ (rule : GrowthRule) (lengths : HaveLengths) (old new : View) (u : Strin
       })
 
   pub put_gives_nothing : {e : AllocError} → Grows old new t change list u (Err e) → GivesNothing command things old new e
-  put_gives_nothing {e} grows = kept h.found puts.taken (put_given h lengths puts fits)
-      (rw (puts.asks_is, h.found) (growth_asked old new t.block 1 1 (λ (x : Unit {0}). u.block) grows.err.1 t.cap (4 * n)
-      (credit_of (thing.Text t)) credit change e one (text_place rule t n h.held small) paid.0 grows.made))
-      (grown_refused old new t.block 1 1 t.cap
+  put_gives_nothing {e} grows =
+      let refused = grown_refused old new t.block 1 1 t.cap
       (λ (x : Unit {0}). u.block) (4 * n) (credit_of (thing.Text t)) credit one (text_place rule t n h.held small) (omega arith) change e
-      paid.0 (ap (λ m. m.state) grows.err.1) grows.made)
+      paid.0 (ap (λ m. m.state) grows.err.1) grows.made in
+      kept h.found puts.taken (put_given h lengths puts fits) asks_room
+      (growth_asked old new t.block 1 1 t.cap (λ (x : Unit {0}). u.block) none some change e refused.fits grows.made) refused
 
 -- ---- One byte
 
@@ -141,9 +154,9 @@ module _ (things : Things) (old : View) (name : ℕ) (none : get things name ≡
     (empty : builder_bytes old.memory t ≡ []) (block : t.block ≡ no_block) (len : t.len ≡ 0) (cap : t.cap ≡ 0) where
   pub made_text : GivesThing (MakeText name) things old old name (thing.Text t) Done
   unfolding effect
-  made_text = let no_bytes : t.block.size ≡ 0 = ap (λ (b : Block). b.size) block in made none refl (rw (none, empty) refl) (record {
+  made_text = let no_bytes : t.block.size ≡ 0 = ap (λ (b : Block). b.size) block in made none refl (rw (none, empty) refl) refl (record {
+    takes = (empty_solid t.block no_bytes, still old);
     held = record { held = held; room = omega (arith, len, cap) };
-    room = cap ∙ sym (ap (λ (bytes : List ℕ). length bytes) empty);
     least = omega (arith, no_bytes);
     costs = nothing_given 32 0 _ old old (still old) (rw (len, cap) (omega arith));
     frame = (empty_after old.memory old.memory [] [] [] t.block no_bytes).1 (frame_reflexive old.memory []);

@@ -1,6 +1,6 @@
 -- What copies of texts do.
 use Rattle.std.proofs.lemmas.Bool.Decides.{nat_tests}
-use Rattle.std.proofs.Common.{IsPermutation, ◌≡◌, ℕ, ◌+◌, ◌*◌, ◌^◌, ◌≤◌, sym, ap, ◌∙◌, subst, arith, IsTrue, Ok, Err, Some, None, Result, List, [], ◌∷◌, length}
+use Rattle.std.proofs.Common.{IsPermutation, ◌≡◌, ℕ, ◌+◌, ◌*◌, ◌^◌, ◌≤◌, sym, ap, ◌∙◌, subst, arith, IsTrue, Ok, Err, None, Result, [], ◌∷◌, length}
 use Rattle.std.proofs.lemmas.List.{take_all}
 use Rattle.arena_rules.specs.Rounding.{is_layout}
 use Rattle.arena_chunks.specs.Source.{View}
@@ -8,11 +8,10 @@ use Rattle.arena_chunks.specs.Frame.{Frame}
 use Rattle.arena_store.specs.declared.block.Block.{Block}
 use Rattle.arena_chunks.specs.declared.allocator.text.Str.{Str}
 use Rattle.arena_items.specs.Values.{text_bytes}
+use Rattle.arena_items.specs.Asks.{Fresh, solid, Asked, TakesBlock, refusal}
 use Rattle.arena_items.specs.declared.room.AllocError.{AllocError}
 use Rattle.arena_text.specs.Builders.{builder_bytes}
 use Rattle.arena_text.specs.declared.text.StringBuilder.{StringBuilder}
-use Rattle.arena_clone.specs.Asks.{AsksFor}
-use Rattle.arena_clone.specs.Asks.Ask.{Room}
 use Rattle.arena_clone.specs.Copies.{Copies}
 use Rattle.arena_clone.specs.Kinds.{text}
 use Rattle.arena_exchange.specs.declared.ids.CloneInSemanticIds.TheVariants.{With}
@@ -22,7 +21,7 @@ use Rattle.script_rules.specs.declared.commands.ScriptReply.TheVariants.{Done}
 use Rattle.arena_script.specs.Things.{Things, object_in, credit_of, IsWordsIn}
 use Rattle.arena_script.specs.Acts.{GivesThing, GivesNothing}
 use Rattle.arena_script.specs.declared.thing.Thing.TheVariants as thing
-use Rattle.arena_script.proofs.AskLemmas.{alone}
+use Rattle.arena_script.proofs.AskLemmas.{copy_taken, copy_refused}
 use Rattle.arena_script.proofs.CopyActs.{copy_gives, copy_gives_nothing}
 use Rattle.arena_script.proofs.ThingLemmas.{Holds}
 use Rattle.arena_script.proofs.TakenLemmas.{IsTaken, taken, not_taken, one_block}
@@ -50,8 +49,8 @@ module _ (old new : View) (other : ℕ) {things : Things} {name : ℕ} {t : Stri
 
   pub text_copy_gives_nothing : {e : AllocError} → Cloned (Err e) → GivesNothing (CopyTo name other) things old new e
   text_copy_gives_nothing {e} copies = copy_gives_nothing h none (ap (λ k. 32 + 4 * k) (sym count))
-      (subst (λ k. AsksFor (Room k 1 ∷ []) old new [] (Some e)) size
-      (alone old new copies.blocks e (Room s.block.size 1) copies.placed.asked))
+      (subst (λ k. Asked (Fresh k 1) old new (refusal e)) (size ∙ count)
+      (copy_refused old new s.block.size 1 copies.blocks e copies.placed.asked))
       (not_taken old new s.block.size 1 copies.blocks cost one layout (omega arith) few e (omega (arith, size)) copies.placed.asked)
 
   module _ {copy : Str} (copies : Cloned (Ok copy)) where
@@ -73,7 +72,8 @@ module _ (old new : View) (other : ℕ) {things : Things} {name : ℕ} {t : Stri
     pub text_copy_gives : GivesThing (CopyTo name other) things old new other (thing.Text (now copy)) Done
     text_copy_gives = copy_gives h none (ap (λ k. 32 + 4 * k) (sym count)) (thing.Text (now copy)) text_is (record {
       held = text_held;
-      room = count ∙ sym (ap (λ (bs : List ℕ). length bs) bytes_same);
+      takes = subst (λ k. TakesBlock (Fresh k 1) None old new (solid copy.block)) (size ∙ count)
+          (copy_taken old new s.block.size 1 copies.blocks copy.block (is_taken.is ∙ ap (λ (b : Block). b ∷ []) (sym own)) copies.placed.asked);
       least = omega (arith, is_taken.least, is_taken.of_size, ap (λ (b : Block). b.size) own);
       costs = is_taken.costs;
       frame = subst (λ bs. Frame old.memory new.memory [] bs) (is_taken.is ∙ ap (λ (b : Block). b ∷ []) (sym own)) copies.placed.frame;

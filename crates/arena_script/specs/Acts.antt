@@ -1,10 +1,10 @@
 -- What calls on commands do to things in an arena.
-use Rattle.std.specs.Prelude.{◌≡◌, ◌≢◌, ℕ, ◌+◌, ◌-◌, ◌^◌, ◌≤◌, ◌⊎◌, Result, Ok, Err, Some, None, [], ◌∷◌, IsTrue}
+use Rattle.std.specs.Prelude.{◌≡◌, ◌≢◌, ℕ, ◌+◌, ◌-◌, ◌^◌, ◌≤◌, ◌⊎◌, Result, Ok, Err, None, [], ◌∷◌, IsTrue}
 use Rattle.arena_rules.specs.Rounding.{is_layout}
 use Rattle.arena_rules.specs.Search.{place}
 use Rattle.arena_chunks.specs.Source.{View}
 use Rattle.arena_chunks.specs.Frame.{Frame}
-use Rattle.arena_clone.specs.Asks.{AsksFor}
+use Rattle.arena_items.specs.Asks.{solid, Asked, TakesBlock, refusal}
 use Rattle.arena_items.specs.Costs.{Costs, used as used_in}
 use Rattle.arena_items.specs.declared.room.AllocError.{AllocError}
 use Rattle.arena_items.specs.declared.room.AllocError.TheVariants.{AllocErr, CapacityOverflow, OutOfMemory}
@@ -14,8 +14,8 @@ use Rattle.script_rules.specs.Effects as effects
 use Rattle.script_rules.specs.declared.commands.Command.{Command}
 use Rattle.script_rules.specs.declared.commands.ScriptReply.{ScriptReply}
 use Rattle.arena_script.specs.Things.{Things, block_of, blocks_of, IsThingIn, object_in, seen, size_of, size_held, credit_of, credit_held}
-use Rattle.arena_script.specs.Rooms.{room_of, room_in, room_held}
 use Rattle.arena_script.specs.Asks.{asks}
+use Rattle.arena_script.specs.Places.{block_at}
 use Rattle.arena_script.specs.Wants.{tells_much, takes_room}
 use Rattle.arena_script.specs.declared.thing.Thing.{Thing}
 use Rattle.arena_script.specs.declared.act.Act.{Act}
@@ -44,14 +44,14 @@ abbrev pub CostsRefused : (cost before after : ℕ) (old new : View) → AllocEr
 CostsRefused cost before after old new e = Costs {X = Unit {0}} far cost before after old new (Err e)
 
 -- A call does what the plain machine does: a name gets a thing that represents the object, in a block of its own that
--- replaces the one before. Its bytes come into use, and with its credit they are at most the cost and the credit
--- before. A text has the capacity that the growth rule says. A new name takes room.
+-- replaces the one before. It takes exactly the block that the command asks for. Its bytes come into use, and with its
+-- credit they are at most the cost and the credit before. A new name takes room.
 pub record GivesThing (command : Command) (things : Things) (old new : View) (name : ℕ) (thing : Thing) (reply : ScriptReply) : Type 0 where
   pub cost : ℕ
   pub effect_is : effect command (seen old.memory things) ≡ effects.Gives name (object_in new.memory thing) reply cost
   pub taken : get things name ≡ None → IsTrue (takes_room command)
   pub held : IsThingIn new.memory thing
-  pub room : room_in thing ≡ room_of (object_in new.memory thing) (seen old.memory things name) (room_held (get things name))
+  pub takes : TakesBlock (asks command (seen old.memory things) (block_at things)) (block_at things name) old new (solid (block_of thing))
   pub least : used old + size_of thing ≤ used new + size_held (get things name)
   pub costs : CostsGiven cost (credit_held (get things name)) (credit_of thing) old new
   pub frame : Frame old.memory new.memory (blocks_of (get things name)) (block_of thing ∷ [])
@@ -68,7 +68,7 @@ pub record GivesNothing (command : Command) (things : Things) (old new : View) (
   pub taken : IsTrue (takes_room command)
   pub fits : e ≢ CapacityOverflow
   pub costs : CostsRefused cost (credit_held (get things name)) (credit_held (get things name)) old new e
-  pub asked : AsksFor (asks command old.memory things ∷ []) old new [] (Some e)
+  pub asked : Asked (asks command (seen old.memory things) (block_at things)) old new (refusal e)
   pub denied : (k : ℕ) → e ≡ AllocErr k → HasNoPlace (used old + (cost + credit_held (get things name))) new
   pub same : new.memory.state ≡ old.memory.state
 

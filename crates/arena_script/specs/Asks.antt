@@ -1,55 +1,73 @@
--- What commands ask their arena for: one block, or none.
-use Rattle.std.specs.Prelude.{ℕ, ◌+◌, ◌*◌, Option, Some, None, length}
+-- What commands ask their arena for, by the objects and the blocks that names have: one block, or none.
+use Rattle.std.specs.Prelude.{ℕ, zero, suc, ◌+◌, ◌*◌, max, Option, Some, None, is_some, length}
 use Rattle.arena_rules.specs.Bits.{words_for}
-use Rattle.arena_chunks.specs.Memory.{Memory}
-use Rattle.arena_clone.specs.Asks.{Ask, ask_by, vector_ask}
-use Rattle.arena_clone.specs.Asks.Ask.{Room, NoBytes}
-use Rattle.arena_clone.specs.MapKind.{table_ask}
-use Rattle.arena_hash.specs.Finite.{has}
-use Rattle.arena_hash.specs.Maps.{map_in}
+use Rattle.arena_rules.specs.Search.{power_at_least}
+use Rattle.arena_store.specs.declared.block.Block.{Block}
+use Rattle.arena_items.specs.Asks.{Ask, NoBlock, Fresh, room_ask, table_ask, capacity_of}
 use Rattle.arena_hash.specs.Policy.{growth_for, slot_size, table_align}
 use Rattle.arena_text.specs.Growth as texts
 use Rattle.arena_vec.specs.Growth as vectors
-use Rattle.script_rules.specs.Objects.{get}
+use Rattle.script_rules.specs.Objects.{get, Object, AList, AText, ASet, AMap, AValue}
 use Rattle.script_rules.specs.declared.commands.Command.{Command}
 use Rattle.script_rules.specs.declared.commands.Command.TheVariants.{MakeBits, MakeValue, Push, Insert, Byte, Front, Append, Bind, CopyTo}
-use Rattle.arena_script.specs.Kinds.{pairs}
-use Rattle.arena_script.specs.Things.{Things, content}
-use Rattle.arena_script.specs.declared.thing.Thing.{Thing}
-use Rattle.arena_script.specs.declared.thing.Thing.TheVariants as thing
 
--- what a list asks for to hold one more number; a text to hold `n` more bytes; and a map to hold this key
-abbrev pub longer_list : Option Thing → Ask
-longer_list (Some (thing.List v)) = ask_by 4 4 (vectors.amortised_growth 4 v.raw.cap (v.raw.len + 1))
-longer_list other = NoBytes
+-- ---- Lists and texts: the first block is a new one, and each later one replaces that before it
 
-abbrev pub longer_text : ℕ → Option Thing → Ask
-longer_text n (Some (thing.Text t)) = ask_by 1 1 (texts.amortised_growth t.cap t.len n)
-longer_text n other = NoBytes
+-- one more number, and `n` more bytes
+abbrev pub longer_list : Option Object → Option Block → Ask Block
+longer_list (Some (AList items)) block =
+    room_ask 4 4 block (vectors.amortised_growth 4 (capacity_of 4 block) (length items + 1))
+longer_list object block = NoBlock
 
-abbrev pub larger_map : Memory → ℕ → Option Thing → Ask
-larger_map m key (Some (thing.Map h)) =
-    ask_by (slot_size 4 4) (table_align 4 4) (growth_for (has (map_in pairs m h) (content key)) h.table.slots h.len)
-larger_map m key other = NoBytes
+abbrev pub longer_text : ℕ → Option Object → Option Block → Ask Block
+longer_text n (Some (AText bytes)) block = room_ask 1 1 block (texts.amortised_growth (capacity_of 1 block) (length bytes) n)
+longer_text n object block = NoBlock
 
--- what a copy of a thing asks for
-abbrev pub copy_ask : Option Thing → Ask
-copy_ask None = NoBytes
-copy_ask (Some (thing.List v)) = vector_ask 4 4 v.raw.len
-copy_ask (Some (thing.Text t)) = Room t.len 1
-copy_ask (Some (thing.Bits s)) = Room (words_for s.capacity * 8) 8
-copy_ask (Some (thing.Map h)) = table_ask pairs h.len
-copy_ask (Some (thing.Value b)) = Room 8 8
+-- ---- Maps: each table is a new block
 
--- The block that a command asks for, by what its name holds.
-abbrev pub asks : Command → Memory → Things → Ask
-asks (MakeBits name capacity) m things = Room (words_for capacity * 8) 8
-asks (MakeValue name value) m things = Room 8 8
-asks (Push name value) m things = longer_list (get things name)
-asks (Insert name at value) m things = longer_list (get things name)
-asks (Byte name byte) m things = longer_text 1 (get things name)
-asks (Front name byte) m things = longer_text 1 (get things name)
-asks (Append name bytes) m things = longer_text (length bytes) (get things name)
-asks (Bind name key value) m things = larger_map m key (get things name)
-asks (CopyTo name other) m things = copy_ask (get things name)
-asks command m things = NoBytes
+abbrev pub table_of : ℕ → Ask Block
+table_of slots = Fresh (slots * slot_size 4 4) (table_align 4 4)
+
+-- a number for a key
+abbrev pub larger_map : ℕ → Option Object → Option Block → Ask Block
+larger_map key (Some (AMap pairs)) block =
+    table_ask (slot_size 4 4) (table_align 4 4) (growth_for (is_some (get pairs key)) (capacity_of (slot_size 4 4) block) (length pairs))
+larger_map key object block = NoBlock
+
+-- ---- Copies
+
+-- a new list of `n` numbers, and the table of a new map for `n` pairs
+abbrev pub list_of : ℕ → Ask Block
+list_of zero = NoBlock
+list_of (suc n) = Fresh (suc n * 4) 4
+
+abbrev pub table_for : ℕ → Ask Block
+table_for zero = NoBlock
+table_for (suc n) = table_of (power_at_least (max (2 * suc n) 8))
+
+abbrev pub copy_ask : Option Object → Ask Block
+copy_ask None = NoBlock
+copy_ask (Some (AList items)) = list_of (length items)
+copy_ask (Some (AText bytes)) = Fresh (length bytes) 1
+copy_ask (Some (ASet capacity bits)) = Fresh (words_for capacity * 8) 8
+copy_ask (Some (AMap pairs)) = table_for (length pairs)
+copy_ask (Some (AValue value)) = Fresh 8 8
+
+-- ---- Commands
+
+-- the block of each name that has one: some objects need no bytes
+abbrev pub Blocks : Type 0
+Blocks = ℕ → Option Block
+
+-- What a command asks for where it gives a name an object.
+abbrev pub asks : Command → (ℕ → Option Object) → Blocks → Ask Block
+asks (MakeBits name capacity) of blocks = Fresh (words_for capacity * 8) 8
+asks (MakeValue name value) of blocks = Fresh 8 8
+asks (Push name value) of blocks = longer_list (of name) (blocks name)
+asks (Insert name at value) of blocks = longer_list (of name) (blocks name)
+asks (Byte name byte) of blocks = longer_text 1 (of name) (blocks name)
+asks (Front name byte) of blocks = longer_text 1 (of name) (blocks name)
+asks (Append name bytes) of blocks = longer_text (length bytes) (of name) (blocks name)
+asks (Bind name key value) of blocks = larger_map key (of name) (blocks name)
+asks (CopyTo name other) of blocks = copy_ask (of name)
+asks command of blocks = NoBlock

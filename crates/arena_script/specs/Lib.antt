@@ -1,9 +1,10 @@
 pub mod Kinds
 pub mod Things
-pub mod Rooms
 pub mod ThingLaws
 pub mod Wants
 pub mod Asks
+pub mod Places
 pub mod Acts
 pub mod Serves
 pub mod Running
+pub mod RunLaws

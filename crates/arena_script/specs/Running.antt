@@ -1,18 +1,20 @@
 -- What is promised of running a script on an arena of which nothing is used.
-use Rattle.std.specs.Prelude.{◌≡◌, ◌≢◌, ℕ, ◌+◌, ◌≤◌, ◌⊎◌, Some, List, [], ◌∷◌, length, take, slice_get, IsSomeAnd, IsTrue}
+use Rattle.std.specs.Prelude.{◌≡◌, ◌≢◌, ℕ, ◌+◌, ◌≤◌, ◌⊎◌, Option, None, List, [], length, take, slice_get, IsSomeAnd, IsTrue}
+use Rattle.arena_rules.specs.State.{IsValid}
 use Rattle.arena_chunks.specs.Memory.{Memory}
 use Rattle.arena_chunks.specs.Source.{View}
 use Rattle.arena_chunks.specs.Asking.{AsksWithin, IsFull}
-use Rattle.arena_clone.specs.Asks.{AsksFor}
-use Rattle.arena_items.specs.declared.room.AllocError.TheVariants.{AllocErr}
-use Rattle.script_rules.specs.Objects.{Objects, need}
+use Rattle.script_rules.specs.Objects.{get, Objects, need}
+use Rattle.script_rules.specs.Effects.{effect}
 use Rattle.script_rules.specs.Machine.{run, cost_of_first}
 use Rattle.arena_rules.specs.Asking.{IsStarvedWithin}
 use Rattle.script_rules.specs.declared.commands.Command.{Command}
+use Rattle.script_rules.specs.declared.commands.Ended.{Ended}
 use Rattle.script_rules.specs.declared.commands.Ended.TheVariants as ended
 use Rattle.script_rules.specs.declared.outcome.Outcome.{Outcome}
 use Rattle.arena_script.specs.Things.{Things, AreThings, objects_in}
-use Rattle.arena_script.specs.Asks.{asks}
+use Rattle.arena_script.specs.Asks.{Blocks, asks}
+use Rattle.arena_script.specs.Places.{DeniedBlock, RunsOut, block_at}
 use Rattle.arena_script.specs.Acts.{used, HasNoPlace}
 use Rattle.arena_script.specs.Serves.{KeepsKind, IsAfter}
 use Rattle.arena_script.specs.Wants.{takes_memory}
@@ -46,16 +48,34 @@ pub record IsUnbegun (old new : View) (outcome : Outcome) : Type 0 where
 abbrev pub IsStoppedAt : List Command → Outcome → Type 0
 IsStoppedAt script outcome = IsSomeAnd (slice_get script (length outcome.replies)) (λ c. IsTrue (takes_memory c))
 
--- The commands that were served left things in the arena, with the capacities that these commands determine, and the
--- next one asked it for its block: the arena refused, after its source refused `k` requests and granted none.
-pub record IsDenied (script : List Command) (outcome : Outcome) (old new : View) : Type 0 where
+-- How a script ended, at the next command if there is one, where names had these objects and blocks: after its last
+-- command; since the arena refused the block that the next command asked for, with `k` requests of its source refused
+-- and none granted; or since memory ran out, at the latest after that block was taken.
+abbrev pub EndsBy : Ended → Option Command → Objects → Blocks → View → View → Type 0
+EndsBy ended.Done next objects blocks old new = (next ≡ None) × (new ≡ old)
+EndsBy ended.Full next objects blocks old new =
+    IsSomeAnd next (λ c. (k : ℕ) × DeniedBlock (effect c (get objects)) (asks c (get objects) blocks) old new k)
+EndsBy ended.Refused next objects blocks old new =
+    IsSomeAnd next (λ c. (k : ℕ) × DeniedBlock (effect c (get objects)) (asks c (get objects) blocks) old new k)
+EndsBy ended.OutOfMemory next objects blocks old new =
+    (new ≡ old) ⊎ IsSomeAnd next (λ c. RunsOut (effect c (get objects)) (asks c (get objects) blocks) old new)
+
+-- The commands with replies were served, each with the block that it asks for and nothing else, and left things in the
+-- arena. Then the script ended.
+pub record IsRunTo (script : List Command) (outcome : Outcome) (old new : View) : Type 0 where
   pub before : View
   pub things : Things
   pub after : IsAfter script old before things (length outcome.replies)
-  pub asked : IsSomeAnd (slice_get script (length outcome.replies))
-      (λ c. (k : ℕ) × AsksFor (asks c before.memory things ∷ []) before new [] (Some (AllocErr k)))
+  pub ends : EndsBy outcome.ended (slice_get script (length outcome.replies)) (objects_so_far script outcome) (block_at things) before new
+
+-- What a script begins on: nothing is in use, and blocks lie at any multiple of their own alignment.
+pub record IsStart (start : View) : Type 0 where
+  pub valid : IsValid start.memory.state
+  pub unused : used start ≡ 0
+  pub min_align : start.memory.state.min_align ≡ 1
 
 pub record IsRun (script : List Command) (old new : View) (outcome : Outcome) : Type 0 where
+  pub start : IsStart old
   pub replies : Replies script outcome
   pub holds : outcome.ended ≡ ended.Done → HoldsObjects new.memory (run script).objects
   pub asks : AsksWithin (used old + cost_with_next script outcome) old new
@@ -66,7 +86,7 @@ pub record IsRun (script : List Command) (old new : View) (outcome : Outcome) : 
   pub full : outcome.ended ≡ ended.Full → IsFull (cost_with_next script outcome) old
   pub refused : outcome.ended ≡ ended.Refused
       → IsStarvedWithin (cost_with_next script outcome) old.memory.state new.memory.state old.source new.source
-  pub asked : outcome.ended ≢ ended.Done → outcome.ended ≢ ended.OutOfMemory → IsDenied script outcome old new
+  pub ran : IsRunTo script outcome old new
   pub denied : outcome.ended ≢ ended.Done → outcome.ended ≢ ended.OutOfMemory → HasNoPlace (cost_with_next script outcome) new
   pub stopped : outcome.ended ≢ ended.Done → IsUnbegun old new outcome ⊎ IsStoppedAt script outcome
   pub kind : KeepsKind old.memory new.memory

@@ -11,6 +11,7 @@ mod dispatch;
 mod in_order;
 mod job;
 mod kinds;
+pub mod laws;
 mod lists;
 mod maps;
 mod run;

@@ -2,7 +2,7 @@
 ghost use Rattle.std.specs.Prelude.{◌≡◌, ℕ, ◌≤◌, [], length, if◌then◌else◌};
 ghost use Rattle.std.specs.Vec.{vec_capacity};
 ghost use Rattle.arena_script.specs.Acts.{used};
-ghost use Rattle.arena_script.specs.Running.{IsRun};
+ghost use Rattle.arena_script.specs.Running.{IsStart, IsRun};
 
 use crate::serve::serve;
 use crate::thing::Thing;
@@ -30,7 +30,7 @@ fn serve_all<C: ChunkSource>(
     replies: &mut Vec<ScriptReply>,
     commands: &[Command],
 ) -> Ended
-    requires unused { used a.old ≡ 0 }
+    requires start { IsStart a.old }
     requires replies { replies.old.items ≡ [] }
     requires room { length commands.now ≤ vec_capacity replies.old }
     ensures { (bytes : ℕ) → bytes ≡ used a.new
@@ -66,6 +66,7 @@ pub fn run_script<C: ChunkSource>(alloc: Global, a: &mut Allocator<C>, script: &
     requires { used a.old ≡ 0 }
     ensures { IsRun script.now a.old a.new result }
 {
+    a.known();
     let commands = script.as_slice();
     let Ok(mut replies) = Vec::with_capacity(alloc, commands.len()) else {
         return Outcome {

@@ -69,6 +69,25 @@ const ROWS: &[Row] = &[
         1,
     ),
     ("script\nmap 0\nbind 0 1 1\ncopy 0 1\n", 14, 2),
+    // A list grows where it is while it is the last block: 4, 8 and 16 bytes. Behind a value it gets a new block.
+    (
+        "script\nlist 0\npush 0 1\npush 0 2\npush 0 3\npush 0 4\n",
+        1,
+        1,
+    ),
+    ("script\nlist 0\npush 0 1\nvalue 1 5\npush 0 2\n", 2, 3),
+    // So does a text: 8 bytes, and 16 with one more.
+    (
+        "script\ntext 0\nappend 0 4142434445464748\nbyte 0 73\n",
+        1,
+        1,
+    ),
+    // The ninth pair of a map needs a second table, of 288 bytes, beside the first of 144.
+    (
+        "script\nmap 0\nbind 0 1 1\nbind 0 2 1\nbind 0 3 1\nbind 0 4 1\nbind 0 5 1\nbind 0 6 1\nbind 0 7 1\nbind 0 8 1\nbind 0 9 1\n",
+        27,
+        9,
+    ),
 ];
 
 #[test]

@@ -15,4 +15,4 @@ pub returns : goal.returns
 returns g c =
     let none = sym c.get.ensures ∙ is_none c.get.result (sym c.if-is_some.ensures) in
     made_gives refl none c.ranges.capacity.fits c.known.ensures.state
-    (made_given c.args.things.now c.args.a.now.memory c.args.name c.args.capacity none) c.in_ok-set.ensures
+    (made_given c.args.things.now c.args.a.now.memory c.args.name c.args.capacity none) refl c.in_ok-set.ensures

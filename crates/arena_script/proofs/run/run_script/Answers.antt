@@ -7,7 +7,8 @@ use Rattle.arena_script.proofs.run.run_script.Goals as goal
 pub returns-in_default : goal.returns-in_default
 returns-in_default g c =
     subst (λ replies. IsRun c.args.script.now c.args.a.now c.args.a.now (came replies OutOfMemory c.used_bytes.result)) (sym c.new.ensures)
-    (run_unbegun c.args.script.now c.args.a.now c.requires c.used_bytes.result c.used_bytes.ensures)
+    (run_unbegun c.args.script.now c.args.a.now
+    (record { valid = c.known.ensures.valid; unused = c.requires; min_align = c.known.ensures.state }) c.used_bytes.result c.used_bytes.ensures)
 
 pub returns : goal.returns
 returns g c =

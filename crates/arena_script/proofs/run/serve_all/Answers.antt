@@ -6,7 +6,7 @@ use Rattle.arena_script.proofs.run.serve_all.Goals as goal
 
 pub loop-command-init : goal.loop-command-init
 loop-command-init g c = record {
-  after = rw c.new-things.ensures (after_none c.args.commands.now c.args.a.now c.requires.unused);
+  after = rw c.new-things.ensures (after_none c.args.commands.now c.args.a.now c.requires.start.unused);
   replies = c.requires.replies ∙ none_replied;
   count = ap length c.requires.replies;
   room = c.requires.room;
@@ -17,14 +17,14 @@ returns-in-Err-AllocErr g c = λ bytes is.
     let l = c.loop-command in
     let at = is_at c.args.commands.now l.command-index c.command-item.result c.loop-command-test.true c.command-item.is in
     subst (λ ended. IsRun c.args.commands.now c.args.a.now c.serve.new.a (came l.replies.items ended bytes)) (sym c.refused.ensures)
-    (run_refused _ _ (omega (arith, c.loop-command-test.true)) l.invariant.replies c.bytes_law.ensures.pairs at c.requires.unused l.invariant.after
+    (run_refused _ _ (omega (arith, c.loop-command-test.true)) l.invariant.replies c.bytes_law.ensures.pairs at c.requires.start l.invariant.after
     c.in-Err-AllocErr.ensures is c.in-Err-AllocErr.field-0-is c.serve.new.a.memory.state.is_growing refl)
 
 pub returns-in-Err : goal.returns-in-Err
 returns-in-Err g c = λ bytes is.
     let l = c.loop-command in
     let at = is_at c.args.commands.now l.command-index c.command-item.result c.loop-command-test.true c.command-item.is in
-    run_exhausted _ _ (omega (arith, c.loop-command-test.true)) l.invariant.replies c.bytes_law.ensures.pairs at c.requires.unused l.invariant.after c.in-Err.ensures is
+    run_exhausted _ _ (omega (arith, c.loop-command-test.true)) l.invariant.replies c.bytes_law.ensures.pairs at c.requires.start l.invariant.after c.in-Err.ensures is
 
 pub loop-command-preserved : goal.loop-command-preserved
 loop-command-preserved g c =
@@ -40,5 +40,5 @@ loop-command-preserved g c =
 pub returns : goal.returns
 returns g c = λ bytes is.
     let l = c.loop-command in
-    run_done _ _ (omega (arith, l.auto.command-index-end)) l.invariant.replies c.bytes_law.ensures.pairs c.requires.unused l.invariant.after
+    run_done _ _ (omega (arith, l.auto.command-index-end)) l.invariant.replies c.bytes_law.ensures.pairs c.requires.start l.invariant.after
     (omega (arith, l.auto.command-index-end, c.loop-command-test.false)) is

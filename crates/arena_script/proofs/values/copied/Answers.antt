@@ -1,7 +1,6 @@
-use Rattle.std.proofs.Common.{refl, ap}
-use Rattle.arena_script.specs.Asks.{copy_ask}
+use Rattle.std.proofs.Common.{refl}
 use Rattle.arena_script.proofs.ThingLemmas.{holds}
-use Rattle.arena_script.proofs.CopyActs.{copy_given}
+use Rattle.arena_script.proofs.CopyActs.{copy_given, copy_asks}
 use Rattle.arena_script.proofs.CostFacts.{not_given}
 use Rattle.arena_script.proofs.ValueActs.{made_gives, made_gives_nothing}
 use Rattle.arena_script.proofs.values.copied.Goals as goal
@@ -11,8 +10,9 @@ returns-in_err-copy g c =
     let h = holds c.requires.things c.args.name c.requires.found in
     not_given c.from_residual.result c.from_residual.ensures.1
     (made_gives_nothing refl c.requires.none c.known.ensures.state
-    (rw c.get-content.ensures (copy_given h c.args.other c.requires.none)) (ap copy_ask h.found) c.in_err-copy.ensures)
+    (rw c.get-content.ensures (copy_given h c.args.other c.requires.none)) (copy_asks h c.args.other) c.in_err-copy.ensures)
 
 pub returns : goal.returns
 returns g c = made_gives refl c.requires.none c.known.ensures.state
-    (rw c.get-content.ensures (copy_given (holds c.requires.things c.args.name c.requires.found) c.args.other c.requires.none)) c.in_ok-copy.ensures
+    (rw c.get-content.ensures (copy_given (holds c.requires.things c.args.name c.requires.found) c.args.other c.requires.none))
+    (copy_asks (holds c.requires.things c.args.name c.requires.found) c.args.other) c.in_ok-copy.ensures

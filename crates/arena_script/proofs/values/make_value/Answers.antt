@@ -14,4 +14,4 @@ pub returns : goal.returns
 returns g c =
     let none = sym c.get.ensures ∙ is_none c.get.result (sym c.if-is_some.ensures) in
     made_gives refl none c.known.ensures.state (made_given c.args.things.now c.args.a.now.memory c.args.name c.args.value none)
-    c.in_ok-value.ensures
+    refl c.in_ok-value.ensures
