@@ -26,6 +26,7 @@ module _ {C : Type 0} (source : C → Source) (kind : PoolKind) (bytes : List �
     full = λ e. absurd (cc none.unserved);
     refused = λ e. absurd (cc none.unserved);
     other = λ other. none.none;
+    ran = inr none.unserved;
   }
   alone (inl done) = let ran = done.done in let most = lint_bytes (length bytes) in record {
     reports = ran.reports;
@@ -37,6 +38,14 @@ module _ {C : Type 0} (source : C → Source) (kind : PoolKind) (bytes : List �
           served.starved (done.refused (ap is_refused e)),
     );
     other = λ other. done.other (grind (arith, other));
+    ran = inl (record {
+      old = done.old;
+      new = done.new;
+      unused = done.unused;
+      low = done.low;
+      ran = ran;
+      kept = λ e. done.refused (ap is_refused e);
+    });
   }
 
 pub all_alone : {C : Type 0} (source : C → Source) (kind : PoolKind) (sources : List (List ℕ)) (all : List (Served FileReport C))

@@ -3,6 +3,7 @@ pub mod KnownLemmas
 pub mod NameLemmas
 pub mod StatementLemmas
 pub mod SpendingLemmas
+pub mod StoppingLemmas
 pub mod TakingLemmas
 pub mod WalkLemmas
 pub mod LintLemmas

@@ -1,7 +1,7 @@
 -- The report of one text.
 use Rattle.std.proofs.lemmas.Bool.Decides.{nat_tests}
-use Rattle.std.proofs.Common.{◌≡◌, ℕ, ◌+◌, ◌^◌, ◌≤◌, List, [], ◌∷◌, length, refl, ap, inr, true, false, Bool, Ok, Err, Some, None, arith}
-use Rattle.std.specs.Prelude.{◌*◌, ◌⊎◌, Option, IfNone}
+use Rattle.std.proofs.Common.{◌≡◌, ℕ, ◌+◌, ◌^◌, ◌≤◌, List, [], ◌∷◌, length, refl, ap, subst, inl, inr, true, false, Bool, Ok, Err, Some, None, arith}
+use Rattle.std.specs.Prelude.{◌*◌, ◌⊎◌, Option, Result, IfNone}
 use Rattle.arena_rules.specs.State.{used_bytes}
 use Rattle.arena_rules.proofs.AskingLemmas.{asks_more}
 use Rattle.arena_chunks.specs.Memory.{Memory}
@@ -15,6 +15,7 @@ use Rattle.arena_items.specs.Denied.{Layouts, Only, IsDenied}
 use Rattle.arena_items.specs.declared.room.AllocError.{AllocError}
 use Rattle.arena_items.specs.declared.room.AllocError.TheVariants as alloc
 use Rattle.arena_vec.specs.Vecs.{vec_list}
+use Rattle.arena_symbols.specs.Calls.{State}
 use Rattle.arena_symbols.specs.Named.{AreNames, AreNewNames, all_blocks, all_credit}
 use Rattle.arena_symbols.specs.Names.{names_in}
 use Rattle.arena_symbols.specs.Scoping.{pair_count}
@@ -31,16 +32,20 @@ use Rattle.arena_tree.specs.Parsing.{ParsesInOnePass, TakesAtMost, IsProgramText
 use Rattle.arena_tree.specs.StmtsAt.{stmts_blocks}
 use Rattle.arena_tree.specs.TreesAt.{node_item}
 use Rattle.arena_tree.specs.declared.tree.Tree.{Tree}
+use Rattle.arena_tree.specs.Spending.{error_of}
 use Rattle.arena_tree.specs.declared.tree.TreeErr.{TreeErr}
+use Rattle.arena_tree.specs.declared.tree.TreeErr.TheVariants as tree
 use Rattle.arena_tree.proofs.Layers.{nodes_used, one_stmts}
 use Rattle.lint_reports.specs.Taking.{Taking}
 use Rattle.lint_reports.specs.Reports.{Reports, said}
 use Rattle.lint_reports.specs.declared.report.FileReport.{FileReport}
 use Rattle.lint_reports.specs.declared.report.FileReport.TheVariants.{Full, Refused, OutOfMemory}
 use Rattle.arena_lint.specs.Knowing.{Knows}
-use Rattle.arena_lint.specs.Linting.{Lints, Checks, LintsAsk, lint_bytes, no_place, unparsed_by}
+use Rattle.arena_symbols.specs.Serving.{state_in}
+use Rattle.arena_lint.specs.Linting.{Lints, Checks, LintsAsk, StopsInTree, StopsInWalk, lint_bytes, no_place, unparsed_by}
 use Rattle.arena_lint.specs.Rooms.{ListHasStmts, IsLight}
 use Rattle.arena_lint.specs.Spending.{Spends, Takes, numbers_in, walk_asks, walk_bytes}
+use Rattle.arena_lint.specs.Stopping.{nothing, after_stmts, StopsIn, Goes}
 use Rattle.arena_lint.proofs.KnowLemmas.{no_names}
 use Rattle.arena_lint.proofs.SpendingLemmas.{spends_then, spends_nothing}
 
@@ -104,6 +109,14 @@ nothing_spends {old} {k = k} trees is none means takes =
     (takes.spends (omega (arith, one, is.light, ap weights (given_is is.tree trees means)))) (omega (arith, none.credit))
     (omega (arith, none.credit))
 
+-- It is stopped at a block that the statements ask for.
+pub nothing_stops : {X : Type 0} {old new : View} {k l : Known} {result : Result X AllocError} (trees : Stmts) → IsNothing k
+    → Goes (after_stmts trees) (StopsIn trees) old new k l (error_of result) → (j : ℕ) → result ≡ Err (alloc.AllocErr j)
+    → StopsIn trees nothing new
+nothing_stops {old = old} {new = new} {k = k} trees none goes j is =
+    let start : state_in old.memory k ≡ nothing = rw (none.names old.memory, none.scopes old.memory) refl in
+    subst (λ (s : State). StopsIn trees s new) start (goes.stopped j (rw is refl))
+
 -- ---- What is spent
 
 -- A text's tree was not refused.
@@ -117,20 +130,24 @@ module _ {bytes : List ℕ} {old new : View} {error : Option AllocError} (unused
     (spends : Spends (LintsAsk bytes) (lint_bytes (length bytes)) 0 0 old new error) where
   -- No more was taken than may be, on an arena of which nothing was used.
   lints : (report : FileReport) → Reports bytes report → IfNone (said report) (IsProgramText bytes)
-      → ((report ≡ Full) ⊎ (report ≡ Refused) → IsDenied (LintsAsk bytes) new)
+      → ((report ≡ Full) ⊎ (report ≡ Refused) → StopsInTree bytes old new ⊎ StopsInWalk bytes new)
       → (report ≡ Full → IsFull (lint_bytes (length bytes)) old) → (report ≡ Refused → IsStarved (2 ^ 62) old new)
       → Lints bytes old new report
   lints report reports stopped denied full refused = grind (arith, nat_tests, asks_more)
 
   -- no place for a block
   lints_unplaced : (growing : Bool) → new.memory.state.is_growing ≡ growing → IsProgramText bytes
-      → IsDenied (LintsAsk bytes) new → (old.memory.state.is_growing ≡ true → IsStarved (2 ^ 62) old new)
+      → StopsInTree bytes old new ⊎ StopsInWalk bytes new → (old.memory.state.is_growing ≡ true → IsStarved (2 ^ 62) old new)
       → (old.memory.state.is_growing ≡ false → IsFull (used old + lint_bytes (length bytes)) old) → Lints bytes old new (no_place growing)
   lints_unplaced growing is program denied starved full = grind (arith, nat_tests, lints)
 
   -- A text that has no tree is reported so.
-  pub unparsed : (why : TreeErr) → ParsesInOnePass bytes old new (Err why) → Lints bytes old new (unparsed_by new.memory.state.is_growing why)
-  unparsed why parsed = grind (arith, nat_tests, lints_unplaced, denied_more, lints)
+  pub unparsed : (why : TreeErr) → ParsesInOnePass bytes old new (Err why) → TakesAtMost (parse_bytes (length bytes)) old new
+      → Lints bytes old new (unparsed_by new.memory.state.is_growing why)
+  unparsed (tree.AllocErr k) parsed takes = let short = parsed.1 in
+      lints_unplaced new.memory.state.is_growing refl parsed.0 (inl (record { denied = short.denied; takes = takes.takes })) short.starved
+      (λ still. let full = short.full still in record { still = full.still; short = omega (arith, full.short) })
+  unparsed why parsed takes = grind (arith, nat_tests, lints)
 
 -- What a walk over a tree spends.
 abbrev Walks : View → View → Tree → Option AllocError → Type 0
@@ -152,9 +169,11 @@ module _ {bytes : List ℕ} {old mid new : View} (t : Tree) (light : AreLight) (
       → Checks taking bytes old new first found
   checked taking gained walks = grind (arith, nat_tests, lints, all_spends)
 
-  pub unplaced : (k : ℕ) → Walks mid new t (Some (alloc.AllocErr k)) → Lints bytes old new (no_place new.memory.state.is_growing)
-  unplaced k walks = let spent = all_spends walks in
-      lints_unplaced unused spent new.memory.state.is_growing refl (parsed.0, parsed.1) (spent.denied k refl)
+  pub unplaced : (k : ℕ) → Walks mid new t (Some (alloc.AllocErr k))
+      → ((trees : Stmts) → Means mid.memory t trees → StopsIn trees nothing new) → Lints bytes old new (no_place new.memory.state.is_growing)
+  unplaced k walks stops = let spent = all_spends walks in
+      lints_unplaced unused spent new.memory.state.is_growing refl (parsed.0, parsed.1)
+      (inr (record { trees = parsed.0; tree = parsed.1; stops = stops parsed.0 parsed.2.stand }))
       (λ growing. record { growing = growing; cause = grind (arith, spent.starved growing k refl) })
       (λ still. let short = spent.full still k refl in record { still = still; short = omega (arith, short.short) })
 

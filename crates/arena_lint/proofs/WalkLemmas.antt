@@ -28,7 +28,9 @@ use Rattle.arena_lint.specs.Rooms.{ListHasStmts}
 use Rattle.arena_lint.specs.Spending.{Takes}
 use Rattle.arena_lint.specs.Steps.{Finds, Halfway, Walking, IsNotEmpty}
 use Rattle.arena_lint.proofs.SpendingLemmas.{takes_then, takes_more, takes_exhausted}
+use Rattle.arena_lint.specs.Stopping.{after_stmt, after_stmts, StopsAt, StopsIn, Goes}
 use Rattle.arena_lint.proofs.StatementLemmas.{line_within, stands_still, same_list}
+use Rattle.arena_lint.proofs.StoppingLemmas.{goes_from, goes_next, goes_short, goes_all}
 
 pub moves_none : {m : Memory} {k : Known} → AreNames m k → Moves m m k k
 moves_none {m} {k} held = record { held = held; frame = frame_reflexive m (all_blocks m k) }
@@ -61,6 +63,7 @@ walking_begin taking {a} {k} {first} held = record {
     spent = 0;
     all = omega arith;
     takes = takes_exhausted a k None tt;
+    goes = goes_from ss a k;
     halfway = λ sets knows. record {
       between = sets;
       knows = knows;
@@ -132,12 +135,21 @@ module _ {F : Type 0} (taking : Taking F) {old now : View} {k l : Known} {first 
           takes_more (weights ss) (omega (arith, behind.all, ap weights one.is))
           (takes_then behind.takes (takes one.stmt (stands one.stmt one.stands)))
 
+      -- It is stopped among all of them.
+      pub walking_stops : {e : AllocError} (ss : Stmts) → StmtsAt ss old.memory (vec_list node_item old.memory v)
+          → ((s : Stmt) → StmtAt s now.memory n → Goes (after_stmt s) (StopsAt s) now new l j (Some e))
+          → Goes (after_stmts ss) (StopsIn ss) old new k j (Some e)
+      walking_stops ss at goes =
+          let one = line ss at in
+          goes_short one.is (walking.behind ss at).goes (goes one.stmt (stands one.stmt one.stands))
+
       -- One more statement is walked over.
       pub walking_next : {after : F} → Moves now.memory new.memory l j
           → ((s : Stmt) → StmtAt s now.memory n → Finds taking now.memory new.memory l j before after (Ok tt) (walk_stmt s))
           → ((s : Stmt) → StmtAt s now.memory n → Takes (weight s) now new l j None)
+          → ((s : Stmt) → StmtAt s now.memory n → Goes (after_stmt s) (StopsAt s) now new l j None)
           → Walking taking old new k j first after (vec_list node_item old.memory v) (i + 1)
-      walking_next moves finds takes = record {
+      walking_next moves finds takes goes = record {
         moves = moves_then walking.moves moves;
         behind = λ ss at. let one = line ss at in let behind = walking.behind ss at in record {
           left = one.rest;
@@ -145,6 +157,7 @@ module _ {F : Type 0} (taking : Taking F) {old now : View} {k l : Known} {first 
           spent = behind.spent + weight one.stmt;
           all = omega (arith, behind.all, ap weights one.is);
           takes = takes_then behind.takes (takes one.stmt (stands one.stmt one.stands));
+          goes = goes_next one.is behind.goes (goes one.stmt (stands one.stmt one.stands));
           halfway = λ sets knows.
               halfway_next taking (behind.halfway sets knows) one.stmt one.is (finds one.stmt (stands one.stmt one.stands));
         };
@@ -161,3 +174,6 @@ module _ {F : Type 0} (taking : Taking F) {old now : View} {k l : Known} {first 
 
     pub walked_takes : Takes (weights ss) old now k l None
     walked_takes = let behind = walking.behind ss at in takes_more (weights ss) (omega (arith, behind.all)) behind.takes
+
+    pub walked_goes : Goes (after_stmts ss) (StopsIn ss) old now k l None
+    walked_goes = goes_all all_behind (walking.behind ss at).goes

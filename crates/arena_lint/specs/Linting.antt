@@ -1,5 +1,5 @@
 -- The report of a text, and what it takes.
-use Rattle.std.specs.Prelude.{◌≡◌, ℕ, ◌+◌, ◌*◌, ◌≤◌, ◌⊎◌, Bool, true, false, List, length, IfNone}
+use Rattle.std.specs.Prelude.{◌≡◌, ℕ, ◌+◌, ◌*◌, ◌≤◌, ◌⊎◌, Bool, true, false, List, length, IfNone, Ok}
 use Rattle.arena_chunks.specs.Source.{View}
 use Rattle.arena_chunks.specs.Asking.{AsksWithin, IsFull}
 use Rattle.arena_items.specs.Costs.{used}
@@ -7,15 +7,18 @@ use Rattle.arena_items.specs.Denied.{Layouts, IsDenied}
 use Rattle.arena_rules.specs.Asking.{IsStarvedWithin}
 use Rattle.arena_symbols.specs.Asks.{NamesAsk}
 use Rattle.arena_tree.specs.Layouts.{AskedFor}
-use Rattle.arena_tree.specs.Parsing.{IsProgramText}
+use Rattle.arena_tree.specs.Parsing.{IsProgramText, parse_bytes}
 use Rattle.arena_tree.specs.Spending.{KeepsKind}
 use Rattle.arena_tree.specs.declared.tree.TreeErr.{TreeErr}
 use Rattle.arena_tree.specs.declared.tree.TreeErr.TheVariants as tree
+use Rattle.tree_rules.specs.Refusals.{TreeOf}
+use Rattle.tree_rules.specs.Trees.{Stmts}
 use Rattle.tree_rules.specs.declared.finding.Finding.{Finding}
 use Rattle.lint_reports.specs.Taking.{Taking}
 use Rattle.lint_reports.specs.Reports.{Reports, said}
 use Rattle.lint_reports.specs.declared.report.FileReport.{FileReport}
 use Rattle.lint_reports.specs.declared.report.FileReport.TheVariants.{Checked, Syntax, TooDeep, NumberTooBig, Full, Refused, OutOfMemory}
+use Rattle.arena_lint.specs.Stopping.{nothing, StopsIn}
 
 -- the most bytes of the arena that the report of a text takes
 abbrev pub lint_bytes : ℕ → ℕ
@@ -26,6 +29,17 @@ lint_bytes length = 4096 * (length + 1)
 abbrev pub LintsAsk : List ℕ → Layouts
 LintsAsk bytes size align = AskedFor bytes size align ⊎ NamesAsk (8 * length bytes + 20) size align
 
+-- A block that the text's tree asks for has no place, and no more is in use than a tree takes.
+pub record StopsInTree (bytes : List ℕ) (old new : View) : Type 0 where
+  pub denied : IsDenied (AskedFor bytes) new
+  pub takes : used new ≤ used old + parse_bytes (length bytes)
+
+-- A walk over the statements of its tree, from no names, is stopped at a block that it asks for next.
+pub record StopsInWalk (bytes : List ℕ) (new : View) : Type 0 where
+  pub trees : Stmts
+  pub tree : TreeOf bytes (Ok trees)
+  pub stops : StopsIn trees nothing new
+
 -- A text has its own report, on an arena of which nothing was used. Only the report of a program may say nothing of the
 -- text: where a block that it asks for has no place, in an arena that doesn't grow and has fewer bytes than it may
 -- take, or in one that grows and was starved; or where memory runs out.
@@ -34,7 +48,7 @@ pub record Lints (bytes : List ℕ) (old new : View) (report : FileReport) : Typ
   pub stopped : IfNone (said report) (IsProgramText bytes)
   pub most : used new ≤ lint_bytes (length bytes)
   pub asks : AsksWithin (used old + lint_bytes (length bytes)) old new
-  pub denied : (report ≡ Full) ⊎ (report ≡ Refused) → IsDenied (LintsAsk bytes) new
+  pub denied : (report ≡ Full) ⊎ (report ≡ Refused) → StopsInTree bytes old new ⊎ StopsInWalk bytes new
   pub full : report ≡ Full → IsFull (lint_bytes (length bytes)) old
   pub refused : report ≡ Refused
       → IsStarvedWithin (lint_bytes (length bytes)) old.memory.state new.memory.state old.source new.source

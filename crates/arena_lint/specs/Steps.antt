@@ -18,6 +18,7 @@ use Rattle.tree_nodes.specs.declared.node.Node.{Node}
 use Rattle.lint_reports.specs.Taking.{Taking}
 use Rattle.arena_lint.specs.Knowing.{Knows}
 use Rattle.arena_lint.specs.Spending.{Takes}
+use Rattle.arena_lint.specs.Stopping.{GoesOn}
 
 -- Some expressions are done: these nodes represent those that are left, and what was taken and what is found of them is
 -- all.
@@ -54,6 +55,7 @@ pub record Behind {F : Type 0} (taking : Taking F) (old new : View) (k l : Known
   pub spent : ℕ
   pub all : spent + weights left ≡ weights ss
   pub takes : Takes spent old new k l None
+  pub goes : GoesOn ss left old new k l
   pub halfway : (sets : List NameSet) → Knows old.memory k sets → Halfway taking new.memory l first found ss left sets
 
 pub record Walking {F : Type 0} (taking : Taking F) (old new : View) (k l : Known) (first found : F) (ns : List Node) (i : ℕ)

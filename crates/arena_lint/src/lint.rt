@@ -1,5 +1,5 @@
 // The report of one text.
-ghost use Rattle.std.specs.Prelude.{◌≡◌, ◌+◌, ◌*◌, ◌^◌, ◌≤◌, [], length, IfOk, IfErr, OnOk};
+ghost use Rattle.std.specs.Prelude.{◌≡◌, ℕ, ◌+◌, ◌*◌, ◌^◌, ◌≤◌, [], length, Err, IfOk, IfErr, OnOk};
 ghost use Rattle.arena_items.specs.Costs.{used};
 ghost use Rattle.arena_tree.specs.Given.{Means};
 ghost use Rattle.arena_tree.specs.Spending.{error_of};
@@ -11,6 +11,7 @@ ghost use Rattle.arena_lint.specs.All.{IsTextOf};
 ghost use Rattle.arena_lint.specs.Linting.{Lints, Checks, no_place, unparsed_by};
 ghost use Rattle.arena_lint.specs.Rooms.{IsLight};
 ghost use Rattle.arena_lint.specs.Spending.{Spends, walk_asks, walk_bytes};
+ghost use Rattle.arena_lint.specs.Stopping.{nothing, StopsIn};
 
 use crate::walk::walk;
 use arena_chunks::{Allocator, ChunkSource};
@@ -58,6 +59,8 @@ fn give_findings<C: ChunkSource, F: TakesFindings>(
         → OnOk result (F.taking.gains found.old found.new (findings_of trees)) }
     ensures spends { (trees : Stmts) → Means a.old.memory tree trees
         → Spends (walk_asks (1 + 2 * weights trees)) (walk_bytes (weights trees)) 0 0 a.old a.new (error_of result) }
+    ensures stops { (trees : Stmts) → Means a.old.memory tree trees → (k : ℕ) → result ≡ Err (AllocError.AllocErr k)
+        → StopsIn trees nothing a.new }
 {
     let room = a.used_bytes();
     let mut known = Names::new_in();

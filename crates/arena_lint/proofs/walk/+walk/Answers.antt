@@ -6,7 +6,8 @@ use Rattle.arena_lint.proofs.SpendingLemmas.{err_takes, takes_exhausted, takes_t
 use Rattle.arena_symbols.proofs.Layers.{moves_then}
 use Rattle.tree_rules.specs.Weights.{weight}
 use Rattle.arena_lint.proofs.StatementLemmas.{list_moved, show_finds}
-use Rattle.arena_lint.proofs.WalkLemmas.{moves_none, block_finds, walking_begin, walking_next, walking_end, walking_takes, walked_takes}
+use Rattle.arena_lint.proofs.WalkLemmas.{moves_none, block_finds, walking_begin, walking_next, walking_end, walking_takes, walking_stops, walked_takes, walked_goes}
+use Rattle.arena_lint.proofs.StoppingLemmas.{err_goes, unbegun_stops, body_stops, block_goes, show_goes}
 use Rattle.arena_lint.proofs.walk.+walk.Goals as goal
 
 pub walk-stmt-node-requires-clause-trees : goal.walk-stmt-node-requires-clause-trees
@@ -20,13 +21,18 @@ walk-returns-in_err-walk_stmt-clause-takes g t c ss at =
     walking_takes g.F.TakesFindings.taking c.args.list c.stmts.invariant c.requires.trees c.stmt-node.ensures.stmt ss at
     (λ s stands. err_takes c.from_residual.result c.from_residual.ensures (c.in_err-walk_stmt.ensures.takes s stands))
 
+pub walk-returns-in_err-walk_stmt-clause-goes : goal.walk-returns-in_err-walk_stmt-clause-goes
+walk-returns-in_err-walk_stmt-clause-goes g t c ss at = err_goes c.from_residual.result c.from_residual.ensures
+    (walking_stops g.F.TakesFindings.taking c.args.list c.stmts.invariant c.requires.trees c.stmt-node.ensures.stmt ss at
+    (λ s stands. c.in_err-walk_stmt.ensures.goes s stands))
+
 pub walk-stmts-init : goal.walk-stmts-init
 walk-stmts-init g t c = walking_begin g.F.TakesFindings.taking c.requires.known
 
 pub walk-stmts-preserved : goal.walk-stmts-preserved
 walk-stmts-preserved g t c = walking_next g.F.TakesFindings.taking c.args.list c.stmts.invariant c.requires.trees c.stmt-node.ensures.stmt
     c.walk_stmt.ensures.moves (λ s at sets knows. c.in_ok-walk_stmt.ensures.finds s at sets knows)
-    (λ s at. c.in_ok-walk_stmt.ensures.takes s at)
+    (λ s at. c.in_ok-walk_stmt.ensures.takes s at) (λ s at. c.in_ok-walk_stmt.ensures.goes s at)
 
 pub walk-returns-clause-finds : goal.walk-returns-clause-finds
 walk-returns-clause-finds g t c ss at sets knows = walking_end g.F.TakesFindings.taking c.args.list c.stmts.invariant ss at
@@ -34,6 +40,10 @@ walk-returns-clause-finds g t c ss at sets knows = walking_end g.F.TakesFindings
 
 pub walk-returns-clause-takes : goal.walk-returns-clause-takes
 walk-returns-clause-takes g t c ss at = walked_takes g.F.TakesFindings.taking c.args.list c.stmts.invariant ss at
+    (omega (arith, c.stmts-test.false, c.stmts.auto.i-end, c.len-i-end.ensures))
+
+pub walk-returns-clause-goes : goal.walk-returns-clause-goes
+walk-returns-clause-goes g t c ss at = walked_goes g.F.TakesFindings.taking c.args.list c.stmts.invariant ss at
     (omega (arith, c.stmts-test.false, c.stmts.auto.i-end, c.len-i-end.ensures))
 
 pub walk_stmt-returns-in_err-walk-in-Block-clause-moves : goal.walk_stmt-returns-in_err-walk-in-Block-clause-moves
@@ -51,6 +61,16 @@ walk_stmt-returns-in_err-walk-in-Block-clause-takes g t c s at =
     err_takes c.from_residual-in_err-walk-in-Block.result c.from_residual-in_err-walk-in-Block.ensures
     (rw body.1 (takes_then c.in_ok-list-in-Block.ensures.takes (c.in_err-walk-in-Block.ensures.takes body.0 body.2)))
 
+pub walk_stmt-returns-in_err-list-in-Block-clause-goes : goal.walk_stmt-returns-in_err-list-in-Block-clause-goes
+walk_stmt-returns-in_err-list-in-Block-clause-goes g t c s at = err_goes c.from_residual.result c.from_residual.ensures
+    (unbegun_stops (line_seen kind.Block c.args.a.now.memory c.args.node c.in-Block.is s at).2 c.in_err-list-in-Block.ensures.goes)
+
+pub walk_stmt-returns-in_err-walk-in-Block-clause-goes : goal.walk_stmt-returns-in_err-walk-in-Block-clause-goes
+walk_stmt-returns-in_err-walk-in-Block-clause-goes g t c s at =
+    let body = c.in_ok-list-in-Block.ensures.enters.body s at in
+    err_goes c.from_residual-in_err-walk-in-Block.result c.from_residual-in_err-walk-in-Block.ensures
+    (body_stops body.1 c.in_ok-list-in-Block.ensures.goes (c.in_err-walk-in-Block.ensures.goes body.0 body.2))
+
 pub walk_stmt-returns-in_ok-walk-in-Block : goal.walk_stmt-returns-in_ok-walk-in-Block
 walk_stmt-returns-in_ok-walk-in-Block g t c = let enters = c.in_ok-list-in-Block.ensures.enters in record {
   moves = moves_then (moves_then c.enter_block.ensures.moves c.walk.ensures.moves) c.leave_block.ensures.moves;
@@ -61,7 +81,9 @@ walk_stmt-returns-in_ok-walk-in-Block g t c = let enters = c.in_ok-list-in-Block
   takes = λ s at. let body = enters.body s at in
       rw body.1 (takes_more _ (omega arith) (takes_then
       (takes_then c.in_ok-list-in-Block.ensures.takes (c.in_ok-walk-in-Block.ensures.takes body.0 body.2)) c.leave_block.ensures.takes));
+  goes = λ s at. let body = enters.body s at in
+      block_goes body.1 c.in_ok-list-in-Block.ensures.goes (c.in_ok-walk-in-Block.ensures.goes body.0 body.2) c.leave_block.ensures.goes;
 }
 
 pub walk_stmt-returns-in_default : goal.walk_stmt-returns-in_default
-walk_stmt-returns-in_default g t c = grind (arith, nat_tests, moves_none, show_finds, takes_exhausted)
+walk_stmt-returns-in_default g t c = grind (arith, nat_tests, moves_none, show_finds, show_goes, takes_exhausted)

@@ -2,6 +2,7 @@ use Rattle.std.proofs.Common.{Some}
 use Rattle.tree_nodes.specs.declared.node.Kind.TheVariants as kind
 use Rattle.arena_tree.proofs.Layers.{line_seen}
 use Rattle.arena_lint.proofs.SpendingLemmas.{err_takes, takes_exhausted}
+use Rattle.arena_lint.proofs.StoppingLemmas.{err_goes, goes_out}
 use Rattle.arena_lint.proofs.StatementLemmas.{let_name, let_finds}
 use Rattle.arena_lint.proofs.walk.let_line.Goals as goal
 
@@ -21,3 +22,10 @@ returns-in_err-use_names-clause-takes g c s at = err_takes c.from_residual.resul
 
 pub returns-clause-takes : goal.returns-clause-takes
 returns-clause-takes g c s at = rw (line_seen kind.Let c.args.a.now.memory c.args.node c.requires.kind s at).3 c.define.ensures.takes
+
+pub returns-in_err-use_names-clause-goes : goal.returns-in_err-use_names-clause-goes
+returns-in_err-use_names-clause-goes g c s at =
+    err_goes c.from_residual.result c.from_residual.ensures (goes_out c.in_err-use_names.ensures.exhausted)
+
+pub returns-clause-goes : goal.returns-clause-goes
+returns-clause-goes g c s at = rw (line_seen kind.Let c.args.a.now.memory c.args.node c.requires.kind s at).3 c.define.ensures.goes
