@@ -3,6 +3,7 @@
 //! The entry point is `run_scripts`; `CALLING.md` says what it promises and how to use that.
 #![tactic(auto)]
 
+pub mod laws;
 mod run;
 mod scripts;
 
