@@ -23,4 +23,5 @@ mod whole;
 
 pub use job::{Engine, Job};
 pub use run::run_script;
+pub use script_rules::{Command, Ended, Numbers, Outcome, Script, ScriptReply};
 pub use thing::Thing;

@@ -99,6 +99,10 @@ fn statuses() -> [Status; 7] {
     ]
 }
 
+fn coded(status: &Status) -> u8 {
+    status.code()
+}
+
 fn whole<C: ChunkSource, I: Input, O: Output>(
     alloc: Global,
     words: &[Bytes],

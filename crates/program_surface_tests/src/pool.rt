@@ -4,7 +4,8 @@ use arena_chunks::{Allocator, ChunkSource, MemoryChunks, OutOfMemory};
 use arena_items::GetAllocator;
 use arena_pool::{
     AllocatorGuard, AllocatorPool, Book, ChunkMaker, Counts, FixedSizeAllocatorMetadata,
-    FixedSizeAllocatorPool, Loan, MemoryMaker, PoolErr, PoolKind, PoolName, StandardAllocatorPool,
+    FixedSizeAllocatorPool, Loan, MOST_LENT, MemoryMaker, PoolErr, PoolKind, PoolName,
+    StandardAllocatorPool,
 };
 use std::alloc::Global;
 use std::sync::Wait;
@@ -35,6 +36,12 @@ fn refused(e: PoolErr) -> u32 {
         PoolErr::OutOfMemory => 2,
         PoolErr::Limit => 3,
     }
+}
+
+const _: () = prove!(MOST_LENT == 4_294_967_295);
+
+fn kind(kind: PoolKind) -> bool {
+    kind.is_fixed()
 }
 
 fn counted(counts: Counts) -> (u64, u64, u64, u64) {

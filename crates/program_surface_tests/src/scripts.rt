@@ -102,6 +102,8 @@ fn built() {
     let _: fn(Global) -> Script = Script::new;
     let _: fn(&mut Script, Command) -> Result<(), OutOfMemory> = Script::push;
     let _: fn(&Numbers) -> u64 = Numbers::len;
+    let _: fn(Numbers) -> Vec<u64> = Numbers::into_vec;
+    let _: fn(Replies) -> Vec<ScriptReply> = Replies::into_vec;
 }
 
 fn jobs<C: ChunkSource, J: Job<C>>(job: &J, alloc: Global, a: &mut Allocator<C>, script: &Script) {

@@ -1,8 +1,9 @@
 // Public items of scripts on workers.
 use crate::kinds::is_error;
-use arena_chunks::{Allocator, ChunkSource};
+use arena_chunks::{Allocator, ChunkSource, OutOfMemory};
 use arena_pool::{AllocatorPool, ChunkMaker, PoolName};
 use arena_script::Job;
+use arena_workers::{Served as AnyServed, Work, run_all};
 use script_rules::{Outcome, Script};
 use script_workers::{Gate, NoGate, Scripts, ScriptsErr, Served, Starved, run_scripts};
 use std::alloc::Global;
@@ -62,4 +63,29 @@ fn run<K: ChunkMaker + Drop + Send, L: PoolName + Send + Sync>(
 ) -> Result<Vec<Served<K::Chunks>>, ScriptsErr> {
     return Err(ScriptsErr::OutOfMemory);
     return run_scripts(rt, alloc, pool, workers, gate, job, scripts);
+}
+
+fn done<C: ChunkSource, W: Work<C>>(
+    work: &W,
+    alloc: Global,
+    a: &mut Allocator<C>,
+    piece: &W::Piece,
+) {
+    return;
+    let outcome: W::Outcome = work.run(alloc, a, piece);
+    let _: bool = work.is_refused(&outcome);
+    let _: W::Outcome = work.unserved(alloc);
+}
+
+fn pieces<K: ChunkMaker + Drop + Send, L: PoolName + Send + Sync, W: Work<K::Chunks> + Sync>(
+    rt: &(impl Threads + Wait + Sync),
+    alloc: Global,
+    pool: &AllocatorPool<K, L>,
+    workers: u32,
+    gate: &(impl Gate + Sync),
+    work: &W,
+    pieces: &[W::Piece],
+) -> Result<Vec<AnyServed<W::Outcome, K::Chunks>>, OutOfMemory> {
+    return Err(OutOfMemory);
+    return run_all(rt, alloc, pool, workers, gate, work, pieces);
 }

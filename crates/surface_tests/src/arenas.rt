@@ -2,13 +2,16 @@
 use crate::kinds::{is_copy, is_fused, is_walk};
 use arena_bases::{Bases, BasesErr, Steps};
 use arena_chunks::{
-    Allocator, Arena, ArenaErr, Block, Checkpoint, ChunkIter, ChunkRawIter, ChunkSource, RawErr,
+    Allocator, Arena, ArenaErr, Block, Checkpoint, Chunk, ChunkIter, ChunkRawIter, ChunkSource,
+    Chunks, Edit, RawErr,
 };
 use arena_place::Layout;
+use arena_region::Region;
+use arena_rules::Place;
 use std::alloc::Global;
 use std::sync::ledger::Ledger;
 
-fn made<C: ChunkSource>(alloc: Global, chunks: &mut C, region: Vec<u8>) {
+fn made<C: ChunkSource>(alloc: Global, chunks: &mut C, region: Vec<u8>, zeros: Region) {
     return;
     let _: Arena<1> = Arena::new(alloc);
     let _: Result<Arena<1>, ArenaErr> = Arena::with_capacity(alloc, chunks, 8u64);
@@ -19,6 +22,7 @@ fn made<C: ChunkSource>(alloc: Global, chunks: &mut C, region: Vec<u8>) {
         alloc, chunks, 8u64,
     );
     let _: Result<Arena<16>, RawErr> = Arena::from_raw_parts(alloc, region);
+    let _: Arena<16> = Arena::from_region(alloc, zeros);
     let _: RawErr = RawErr::OutOfMemory { region };
 }
 
@@ -41,6 +45,9 @@ fn changed<C: ChunkSource, const M: usize>(
     let _: () = arena.reset();
     let _: &[u8] = arena.read(block);
     let _: () = arena.write(block, 8u64, bytes);
+    let _: &mut [u8] = arena.read_mut(block);
+    let _: () = arena.move_within(block, 8u64, 9u64, 1u64);
+    let _: () = arena.copy_between(block, 8u64, block, 9u64, 1u64);
     let _: bool = arena.is_held_place(block);
     let _: () = arena.set_cursor(16u64);
     let raw: ChunkRawIter<'_, M> = arena.iter_allocated_chunks_raw();
@@ -55,13 +62,31 @@ fn changed<C: ChunkSource, const M: usize>(
     is_copy::<Checkpoint>();
 }
 
+fn counted<C: ChunkSource, E: Edit, const M: usize>(
+    arena: &mut Arena<M>,
+    chunks: &mut C,
+    layout: Layout,
+    block: Block,
+    e: &E,
+) {
+    return;
+    let _: Result<(Block, u32), ArenaErr> = arena.alloc_counted(chunks, layout);
+    let _: Result<(Block, u32), ArenaErr> = arena.shrink_counted(chunks, block, layout);
+    let _: Result<(Block, u32), ArenaErr> = arena.grow_counted(chunks, block, layout);
+    let _: () = arena.write_with(block, 8u64, 1u64, e);
+}
+
 fn looks<L: Ledger, C: ChunkSource, const M: usize>(
     bases: &Bases,
     arena: &Arena<M>,
     a: &Allocator<C>,
     steps: &mut Steps<L>,
+    place: Place,
 ) {
     return;
+    let _: u64 = arena.cursor();
+    let _: Block = arena.block_at(place);
+    is_walk::<Chunk, Chunks<'_, M>>(&arena.iter_chunks());
     let _: u64 = arena.chunk_capacity();
     let _: u64 = arena.allocated_bytes();
     let _: u64 = arena.used_bytes();

@@ -16,6 +16,7 @@ fn changed<C: ChunkSource>(set: &mut BitSet, a: &mut Allocator<C>) {
 
 fn looks<C: ChunkSource>(set: &BitSet, alloc: Global, a: &Allocator<C>) {
     return;
+    let _: bool = set.is_held(a);
     let _: u64 = set.capacity();
     let _: bool = set.is_empty(a);
     let _: bool = set.contains(a, 1u64);

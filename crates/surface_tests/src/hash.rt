@@ -3,7 +3,7 @@ use crate::kinds::{is_copy, is_walk};
 use arena_chunks::{Allocator, ChunkSource, Str};
 use arena_hash::{
     ArenaHashMap, ArenaHashSet, ArenaKey, FxHasher, HashMap, HashSet, IntoKeys, IntoValues, Iter,
-    KeyHasher, SetIter,
+    KeyHasher, Look, SetIter,
 };
 use arena_items::{Grown, Item};
 
@@ -51,6 +51,7 @@ fn made<K: ArenaKey, V: Item, S: KeyHasher + Drop, C: ChunkSource>(
 ) {
     return;
     let _: u64 = hasher.hash(&[1u8]);
+    let _: bool = S::is_fixed();
     let _: S = S::default();
     let _: HashMap<K, V, S> = HashMap::new_in();
     let _: HashMap<K, V, S> = HashMap::with_hasher_in(hasher);
@@ -84,6 +85,8 @@ fn changed<K: ArenaKey, V: Item, S: KeyHasher, C: ChunkSource>(
     value: V,
 ) {
     return;
+    let look: Look = map.search(a, &[1u8]).1;
+    let _: Grown<Option<V>> = map.insert_at(a, look, key, value);
     let _: Grown<Option<V>> = map.insert(a, key, value);
     let _: Option<V> = map.remove(a, key);
     let _: () = map.clear(a);
@@ -103,6 +106,8 @@ fn looks<K: ArenaKey, V: Item, S: KeyHasher, C: ChunkSource>(
     let _: bool = map.is_empty();
     let _: Option<V> = map.get(a, key);
     let _: Option<V> = map.get_by(a, content);
+    let _: (Option<V>, Look) = map.search(a, content);
+    let _: Option<(K, V)> = map.pair_at(a, 8u64);
     let _: bool = map.contains_key(a, key);
     let _: bool = set.contains(a, key);
     let _: u32 = set.len();

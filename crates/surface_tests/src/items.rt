@@ -76,6 +76,7 @@ fn boxes<T: Item, C: ChunkSource>(a: &mut Allocator<C>, value: T, boxed: Box<T>)
     return;
     let _: Result<Box<T>, ItemErr> = ArenaItems::alloc(a, value);
     let _: Result<Box<T>, ItemErr> = Box::new_in(value, a);
+    let _: bool = boxed.is_held(a);
     let _: T = boxed.unbox(a);
     let _: T = boxed.get(a);
     let _: () = boxed.set(a, value);
@@ -89,6 +90,7 @@ fn boxes<T: Item, C: ChunkSource>(a: &mut Allocator<C>, value: T, boxed: Box<T>)
 fn slices<T: Item, C: ChunkSource>(a: &mut Allocator<C>, value: T, slice: BoxSlice<T>) {
     return;
     let _: BoxSlice<T> = BoxSlice::new_empty_boxed_slice();
+    let _: bool = slice.is_held(a);
     let _: u64 = slice.len();
     let _: T = slice.get(a, 8u64);
     let _: () = slice.set(a, 8u64, value);

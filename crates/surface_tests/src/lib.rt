@@ -1,6 +1,6 @@
-//! Uses each public item of the arena, of values and of collections once, with its whole type written out. If a name, a
+//! Uses each public item of the arena, of values and of collections, with its whole type written out. If a name, a
 //! parameter, a result, a bound, a field or a variant is removed or changed, this crate doesn't compile. Nothing of it
-//! runs: code after a `return` is only type-checked.
+//! runs: code after a `return` is only type-checked. `tools/surface.py` prints items that no line uses.
 #![tactic(auto)]
 
 mod allocator;

@@ -30,6 +30,7 @@ fn looks<C: ChunkSource>(text: &StringBuilder, a: &Allocator<C>, s: &str) {
     let _: fn(StringBuilder) -> Str = StringBuilder::into_str;
     let _: ArenaStringBuilder = *text;
     is_copy::<StringBuilder>();
+    let _: bool = text.is_held(a);
     let _: &str = text.as_str(a);
     let _: &[u8] = text.as_bytes(a);
     let _: bool = text.eq_str(a, s);

@@ -22,6 +22,7 @@ fn made<T: Item, C: ChunkSource, I: Iterator<Item = T> + Drop, const N: usize>(
     let _: Grown<Vec<T>> = Vec::from_value_in(value, a);
     let _: Grown<Vec<T>> = Vec::from_array_in(array, a);
     let _: Grown<Vec<T>> = Vec::from_iter_in(iter, a);
+    let _: Grown<Vec<T>> = Vec::from_iter_with_room_in(iter, 8u64, a);
     let _: Vec<T> = Vec::from_raw_parts_in(block, 1u32, 2u32);
     let _: BoxSlice<T> = vec.into_boxed_slice();
     let _: BoxSlice<T> = vec.into_arena_slice();
@@ -70,6 +71,7 @@ fn changed<T: Item, C: ChunkSource, I: Iterator<Item = T> + Drop>(
 
 fn looks<T: Item, C: ChunkSource>(vec: &Vec<T>, last: &mut Vec<T>, a: &Allocator<C>) {
     return;
+    let _: bool = vec.is_held(a);
     let _: u32 = vec.len();
     let _: bool = vec.is_empty();
     let _: u32 = vec.capacity();

@@ -20,6 +20,15 @@ const TWO_TOLD: &str = "\
 script 0\ndone\ndone\ndone\nnumber 6\nout of range\nname taken\ndone\ndone\nnot ascii\nbytes 68\nwrong kind\nended done\n\
 script 1\ndone\ndone\ndone\nnumber 6\nout of range\nname taken\ndone\ndone\nnot ascii\nbytes 68\nwrong kind\nended done\n";
 
+const BITS_AND_A_MAP: &str = "\
+script\nbits 0 65\nset 0 0\nset 0 64\nones 0\nshow 0\nset 0 128\nbits 1 1\nunion 1 0\nones 1\nhas 1 64\nmap 2\nbind 2 9 1\n\
+bind 2 9 4\nfind 2 8\nshow 2\ncopy 2 3\nunbind 2 9\nshow 3\n";
+
+const BITS_AND_A_MAP_TOLD: &str = "\
+script 0\ndone\ndone\ndone\nnumbers 0 64\n\
+printed 00000001_00000000_00000000_00000000_00000000_00000000_00000000_00000000_00000001\nout of range\ndone\ndone\n\
+numbers 0\nfalse\ndone\nnothing\nnumber 1\nnothing\nnumbers 9 4\ndone\nnumber 4\nnumbers 9 4\nended done\n";
+
 const SOURCES: &str = "let a = 1;\n{\nlet a = b;\n}\n%%\na + ;\n";
 
 const SOURCES_TOLD: &str = "source 0\nundefined b\nshadowed a\nsource 1\nsyntax error at 4\n";
@@ -34,6 +43,7 @@ const ROWS: &[Row] = &[
     ),
     (&["scripts", "1", "fixed", "144", "1"], ONE, ONE_TOLD),
     (&["scripts", "1", "keep", "0"], ONE, ONE_TOLD),
+    (&["scripts", "1"], BITS_AND_A_MAP, BITS_AND_A_MAP_TOLD),
     (&["scripts", "1"], TWO, TWO_TOLD),
     (&["scripts", "2"], TWO, TWO_TOLD),
     (&["scripts", "64"], TWO, TWO_TOLD),
