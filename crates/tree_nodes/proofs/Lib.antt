@@ -12,3 +12,4 @@ pub mod SpendingLemmas
 pub mod NodeCostLemmas
 pub mod BlockCostLemmas
 pub mod CloneListLemmas
+pub mod AskLemmas

@@ -7,4 +7,5 @@ pub mod Counts
 pub mod Lists
 pub mod Subtrees
 pub mod Layouts
+pub mod Asking
 pub mod Spending

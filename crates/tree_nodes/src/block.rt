@@ -1,8 +1,10 @@
 // Blocks in an arena.
-ghost use Rattle.std.specs.Prelude.{◌+◌, ◌-◌, ◌^◌, ◌≤◌, [], ◌∷◌, IfOk};
+ghost use Rattle.std.specs.Prelude.{◌+◌, ◌-◌, ◌^◌, ◌≤◌, [], ◌∷◌, None, IfOk};
 ghost use Rattle.arena_chunks.specs.Frame.{Frame};
+ghost use Rattle.arena_items.specs.Asks.{Fresh};
 ghost use Rattle.arena_items.specs.Denied.{Only};
 ghost use Rattle.arena_items.specs.Values.{IsHeld};
+ghost use Rattle.tree_nodes.specs.Asking.{AsksFor};
 ghost use Rattle.tree_nodes.specs.Spending.{Spends, error_of};
 
 use arena_chunks::{Allocator, ArenaErr, Block, ChunkSource};
@@ -17,6 +19,7 @@ pub(crate) fn place_block<C: ChunkSource>(a: &mut Allocator<C>, layout: Layout) 
     ensures held { IfOk result (IsHeld layout.size layout.align a.new.memory.state) }
     ensures frame { IfOk result (λ b. Frame a.old.memory a.new.memory [] (b ∷ [])) }
     ensures spends { Spends (Only layout.size layout.align) (layout.size + (layout.align - 1)) 0 0 a.old a.new (error_of result) }
+    ensures asks { AsksFor (Fresh layout.size layout.align) None (λ b. b) a.old a.new result }
 {
     // Provides that the least alignment is 1.
     a.known();

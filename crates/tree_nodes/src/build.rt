@@ -1,7 +1,9 @@
 // Nodes, and lists of nodes that are being built.
-ghost use Rattle.std.specs.Prelude.{◌≡◌, ℕ, ◌+◌, ◌*◌, ◌^◌, ◌≤◌, List, [], ◌∷◌, ◌++◌, length, IfOk, OnOk, OnErr};
+ghost use Rattle.std.specs.Prelude.{◌≡◌, ℕ, ◌+◌, ◌*◌, ◌^◌, ◌≤◌, List, [], ◌∷◌, ◌++◌, length, None, IfOk, OnOk, OnErr};
 ghost use Rattle.arena_chunks.specs.Memory.{Memory};
 ghost use Rattle.arena_chunks.specs.Frame.{Frame};
+ghost use Rattle.arena_items.specs.Asks.{Fresh, room_ask, solid};
+ghost use Rattle.arena_items.specs.Room.{capacity_after};
 ghost use Rattle.arena_vec.specs.Changes.{Grows};
 ghost use Rattle.arena_vec.specs.Growth.{amortised_growth};
 ghost use Rattle.arena_vec.specs.Vecs.{IsVecIn, vec_list};
@@ -10,6 +12,7 @@ ghost use Rattle.tree_nodes.specs.TreesAt.{node_item, kids_of, no_kids, IsPlaced
 ghost use Rattle.tree_nodes.specs.Subtrees.{Subtree, OfExpr, IsTreePlaced, IsRowBuilt, AreGathered, IsRowRead};
 ghost use Rattle.tree_nodes.specs.NodeForms.{number_node, no_text};
 ghost use Rattle.tree_nodes.specs.Layouts.{ListOf, LongerList, ListFor, IsDoubled};
+ghost use Rattle.tree_nodes.specs.Asking.{AsksFor, list_ask, list_growth};
 ghost use Rattle.tree_nodes.specs.Spending.{Spends, SpendsOnMore, error_of, node_cost, credit};
 
 use crate::clone_list::roomy;
@@ -105,6 +108,11 @@ pub fn push_node<C: ChunkSource>(
         → OnOk result (IsRowBuilt (ts ++ t ∷ []) old a.new.memory list.new) }
     ensures spends { Spends (LongerList list.old.raw.len list.old.raw.cap 1) node_cost (credit list.old)
         (credit list.new) a.old a.new (error_of result) }
+    ensures asks { AsksFor (room_ask 88 8 (solid list.old.raw.block) (amortised_growth 88 list.old.raw.cap (list.old.raw.len + 1)))
+        (solid list.old.raw.block) (λ u. list.new.raw.block) a.old a.new result }
+    ensures held { OnOk result (IsVecIn node_item a.new.memory list.new) }
+    ensures grown { OnOk result (list.new.raw.cap
+        ≡ capacity_after (amortised_growth 88 list.old.raw.cap (list.old.raw.len + 1)) list.old.raw.cap) }
     ensures len { OnOk result (list.new.raw.len ≡ list.old.raw.len + 1) }
     ensures cap { IsDoubled 1 list.old.raw.cap → OnOk result (IsDoubled 1 list.new.raw.cap) }
     ensures err { OnErr result ((list.new ≡ list.old) × (a.new.memory ≡ a.old.memory)) }
@@ -128,6 +136,7 @@ pub fn wrap<C: ChunkSource>(a: &mut Allocator<C>, kind: Kind, node: &mut Node) -
         → OnOk result ((node.new.kind ≡ kind) × IsRowBuilt (OfExpr e ∷ []) old a.new.memory (kids_of node.new)
         × (node.new.number ≡ 0) × (node.new.text ≡ no_text)) }
     ensures spends { Spends (ListOf 1) node_cost 0 0 a.old a.new (error_of result) }
+    ensures asks { AsksFor (Fresh 88 8) None (λ u. (kids_of node.new).raw.block) a.old a.new result }
     ensures err { OnErr result ((node.new ≡ node.old) × (a.new.memory ≡ a.old.memory)) }
 {
     let mut list = Vec::new_in();
@@ -144,6 +153,7 @@ fn list_of<C: ChunkSource>(a: &mut Allocator<C>, nodes: &[Node], room: u32) -> G
         → IfOk result (IsRowBuilt ts old a.new.memory) }
     ensures held { IfOk result (IsVecIn node_item a.new.memory) }
     ensures spends { Spends (ListOf room) (128 * room) 0 0 a.old a.new (error_of result) }
+    ensures asks { AsksFor (list_ask room) None (λ v. v.raw.block) a.old a.new result }
     ensures len { IfOk result (λ v. v.raw.len ≡ length nodes.now) }
     ensures cap { IfOk result (λ v. v.raw.cap ≡ room) }
 {
@@ -167,6 +177,10 @@ fn longer<C: ChunkSource>(a: &mut Allocator<C>, list: Vec<Node>, nodes: &[Node])
     ensures held { IfOk result (IsVecIn node_item a.new.memory) }
     ensures spends { SpendsOnMore (LongerList list.raw.len list.raw.cap (length nodes.now)) (node_cost * length nodes.now)
         (credit list) a.old a.new result }
+    ensures asks { AsksFor (room_ask 88 8 (solid list.raw.block) (amortised_growth 88 list.raw.cap (list.raw.len + length nodes.now)))
+        (solid list.raw.block) (λ v. v.raw.block) a.old a.new result }
+    ensures grown { IfOk result (λ v. v.raw.cap
+        ≡ capacity_after (amortised_growth 88 list.raw.cap (list.raw.len + length nodes.now)) list.raw.cap) }
     ensures len { IfOk result (λ v. v.raw.len ≡ list.raw.len + length nodes.now) }
     ensures cap { (power : ℕ) → length nodes.now ≡ 2 ^ power → IsDoubled (length nodes.now) list.raw.cap
         → IfOk result (λ v. IsDoubled (length nodes.now) v.raw.cap) }
@@ -205,6 +219,10 @@ pub fn with_more<C: ChunkSource>(
     ensures held { IfOk result (IsVecIn node_item a.new.memory) }
     ensures spends { SpendsOnMore (ListFor list.raw.len list.raw.cap (length nodes.now) room) (node_cost * length nodes.now)
         (credit list) a.old a.new result }
+    ensures asks { AsksFor (room_ask 88 8 (solid list.raw.block) (list_growth list.raw.cap (list.raw.len + length nodes.now) room))
+        (solid list.raw.block) (λ v. v.raw.block) a.old a.new result }
+    ensures grown { IfOk result (λ v. v.raw.cap
+        ≡ capacity_after (list_growth list.raw.cap (list.raw.len + length nodes.now) room) list.raw.cap) }
     ensures len { IfOk result (λ v. v.raw.len ≡ list.raw.len + length nodes.now) }
     ensures cap { (some many : ℕ) → length nodes.now ≡ 2 ^ some → room ≡ 2 ^ many → IsDoubled (length nodes.now) list.raw.cap
         → IfOk result (λ v. IsDoubled (length nodes.now) v.raw.cap) }

@@ -1,11 +1,12 @@
 // Lists of nodes with room for all that are to come.
-ghost use Rattle.std.specs.Prelude.{◌≡◌, ◌+◌, ◌*◌, ◌<◌, List, [], ◌∷◌, ◌++◌, IfOk};
+ghost use Rattle.std.specs.Prelude.{◌≡◌, ◌+◌, ◌*◌, ◌<◌, List, [], ◌∷◌, ◌++◌, None, IfOk};
 ghost use Rattle.arena_chunks.specs.Memory.{Memory};
 ghost use Rattle.arena_items.specs.Room.{SamePlaces};
 ghost use Rattle.arena_vec.specs.Vecs.{IsVecIn};
 ghost use Rattle.tree_nodes.specs.TreesAt.{node_item};
 ghost use Rattle.tree_nodes.specs.Subtrees.{Subtree, IsTreePlaced, IsRowBuilt};
 ghost use Rattle.tree_nodes.specs.Layouts.{ListOf};
+ghost use Rattle.tree_nodes.specs.Asking.{AsksFor, list_ask};
 ghost use Rattle.tree_nodes.specs.Spending.{Spends, error_of};
 
 use crate::block::place_block;
@@ -26,6 +27,7 @@ pub fn roomy<C: ChunkSource>(a: &mut Allocator<C>, len: u32) -> Grown<Vec<Node>>
     ensures len { IfOk result (λ v. v.raw.len ≡ 0) }
     ensures cap { IfOk result (λ v. v.raw.cap ≡ len) }
     ensures spends { Spends (ListOf len) (128 * len) 0 0 a.old a.new (error_of result) }
+    ensures asks { AsksFor (list_ask len) None (λ v. v.raw.block) a.old a.new result }
 {
     if len == 0 {
         return Ok(Vec::new_in());

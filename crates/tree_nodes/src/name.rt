@@ -1,10 +1,12 @@
 // Names in an arena.
-ghost use Rattle.std.specs.Prelude.{◌≡◌, ◌+◌, ◌^◌, ◌≤◌, [], ◌∷◌, length, IfOk, OnOk, OnErr};
+ghost use Rattle.std.specs.Prelude.{◌≡◌, ◌+◌, ◌^◌, ◌≤◌, [], ◌∷◌, length, None, IfOk, OnOk, OnErr};
 ghost use Rattle.arena_chunks.specs.Frame.{Frame};
+ghost use Rattle.arena_items.specs.Asks.{Fresh};
 ghost use Rattle.arena_items.specs.Denied.{TextOf};
 ghost use Rattle.arena_items.specs.Values.{IsTextIn, text_bytes};
 ghost use Rattle.tree_rules.specs.Trees.{Name};
 ghost use Rattle.tree_nodes.specs.TreesAt.{IsPlaced};
+ghost use Rattle.tree_nodes.specs.Asking.{AsksFor};
 ghost use Rattle.tree_nodes.specs.Spending.{Spends, error_of};
 
 use crate::block::place_block;
@@ -22,6 +24,7 @@ fn place_text<C: ChunkSource>(a: &mut Allocator<C>, bytes: &[u8]) -> Grown<Str>
     ensures text { IfOk result (λ s. text_bytes a.new.memory s ≡ bytes.now) }
     ensures frame { IfOk result (λ s. Frame a.old.memory a.new.memory [] (s.block ∷ [])) }
     ensures spends { Spends (TextOf (length bytes.now)) (length bytes.now) 0 0 a.old a.new (error_of result) }
+    ensures asks { AsksFor (Fresh (length bytes.now) 1) None (λ s. s.block) a.old a.new result }
 {
     let Some(layout) = Layout::new(bytes.len() as u64, 1) else {
         unreachable!();
@@ -42,6 +45,7 @@ pub fn place_name<C: ChunkSource>(a: &mut Allocator<C>, name: &[u8]) -> Grown<St
     ensures text { IfOk result (λ s. text_bytes a.new.memory s ≡ name.now) }
     ensures frame { IfOk result (λ s. Frame a.old.memory a.new.memory [] (s.block ∷ [])) }
     ensures spends { Spends (TextOf (length name.now)) (length name.now) 0 0 a.old a.new (error_of result) }
+    ensures asks { AsksFor (Fresh (length name.now) 1) None (λ s. s.block) a.old a.new result }
 {
     place_text(a, name)
 }
@@ -56,6 +60,7 @@ pub fn name_node<C: ChunkSource>(a: &mut Allocator<C>, name: &[u8], node: &mut N
     requires { length name.now ≤ 2 ^ 24 }
     ensures tree { OnOk result (IsPlaced (Name name.now) a.old.memory a.new.memory node.new) }
     ensures spends { Spends (TextOf (length name.now)) (length name.now) 0 0 a.old a.new (error_of result) }
+    ensures asks { AsksFor (Fresh (length name.now) 1) None (λ u. node.new.text.block) a.old a.new result }
     ensures err { OnErr result (node.new ≡ node.old) }
 {
     let text = place_text(a, name)?;
@@ -79,6 +84,7 @@ pub fn clone_text<C: ChunkSource, D: ChunkSource>(
     ensures frame { IfOk result (λ s. Frame to.old.memory to.new.memory [] (s.block ∷ [])) }
     ensures spends { Spends (TextOf (length (text_bytes from.now.memory text)))
         (length (text_bytes from.now.memory text)) 0 0 to.old to.new (error_of result) }
+    ensures asks { AsksFor (Fresh (length (text_bytes from.now.memory text)) 1) None (λ s. s.block) to.old to.new result }
 {
     // Provides that the state is valid, so that the text has a layout.
     from.known();

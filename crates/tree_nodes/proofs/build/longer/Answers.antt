@@ -1,5 +1,5 @@
 use Rattle.std.proofs.lemmas.Bool.Decides.{nat_tests}
-use Rattle.std.proofs.Common.{sym, subst, Ok, arith}
+use Rattle.std.proofs.Common.{sym, subst, Ok, Err, arith}
 use Rattle.arena_items.proofs.Layers.{length-elements}
 use Rattle.arena_vec.specs.Vecs.{vec_list}
 use Rattle.tree_nodes.specs.Layouts.{IsDoubled}
@@ -7,6 +7,7 @@ use Rattle.tree_nodes.specs.Subtrees.{IsRowBuilt}
 use Rattle.tree_nodes.specs.TreesAt.{node_item}
 use Rattle.tree_nodes.proofs.RowLemmas.{rows_more}
 use Rattle.tree_nodes.proofs.NodeCostLemmas.{Paid, node_spends, cap_doubled, pushed_length}
+use Rattle.tree_nodes.proofs.AskLemmas.{grows_asks}
 use Rattle.tree_nodes.proofs.build.longer.Given.{Over}
 use Rattle.tree_nodes.proofs.build.longer.Goals as goal
 
@@ -38,3 +39,11 @@ returns-in-Ok-clause-cap g c = λ power many doubled.
 
 pub returns-in-Err-clause-spends : goal.returns-in-Err-clause-spends
 returns-in-Err-clause-spends g c = grind (arith, nat_tests, node_spends, pushed_length, length-elements)
+
+pub returns-in-Ok-clause-asks : goal.returns-in-Ok-clause-asks
+returns-in-Ok-clause-asks g c = grows_asks _ c.requires.held (Ok c.in-Ok.field-0)
+    (c.vector_costs.ensures.fits _ _ _ _ _ _ (Ok c.in-Ok.field-0) (omega (arith, c.requires.few)) (omega (arith, c.requires.few)) c.in-Ok.ensures) c.in-Ok.ensures
+
+pub returns-in-Err-clause-asks : goal.returns-in-Err-clause-asks
+returns-in-Err-clause-asks g c = grows_asks _ c.requires.held (Err c.in-Err.e)
+    (c.vector_costs.ensures.fits _ _ _ _ _ _ (Err c.in-Err.e) (omega (arith, c.requires.few)) (omega (arith, c.requires.few)) c.in-Err.ensures) c.in-Err.ensures
