@@ -12,8 +12,9 @@ import sys
 os.chdir(os.path.dirname(os.path.dirname(os.path.realpath(__file__))))
 TESTS = ["surface_tests", "program_surface_tests"]
 
-# What only crates of this repository call or implement: a type stands for its methods, too.
+# What only crates and examples of this repository call or implement: a type stands for its methods, too.
 INNER = """
+Beside Plain
 Base Deed Region Steps OverArena Zeros Growth grown take_room allocator_of
 item_at put_copies put_item put_items copy_items move_items Item::encode_all InArena SliceIter
 Origin CloneIn::copy_of CloneIn::is_flat ChunkSource::request_region RefusingChunks::requests Ones::next
