@@ -8,7 +8,7 @@ use Rattle.script_rules.specs.declared.commands.Command.{Command}
 use Rattle.script_rules.specs.declared.commands.Ended.TheVariants as ended
 use Rattle.script_rules.specs.declared.outcome.Outcome.{Outcome}
 use Rattle.arena_script.specs.Running.{IsRun, IsStart}
-use Rattle.arena_script.specs.RunLaws.{bare_state, AreAlike, IsFixed}
+use Rattle.arena_script.specs.OneOutcome.{bare_state, AreAlike, IsFixed}
 use Rattle.arena_script.proofs.OneWay.{one_way}
 
 fixed_chunks : (bytes align : ℕ) (chunks : List Chunk) → FitsKind false chunks → AreChunks align chunks

@@ -25,7 +25,7 @@ use Rattle.script_rules.proofs.RunLemmas.{reply_count}
 use Rattle.arena_script.specs.Asks.{Blocks, asks, longer_list, longer_text, larger_map, list_of, table_for, copy_ask}
 use Rattle.arena_script.specs.Places.{with_block, Places, DeniedBlock, AreServed, no_blocks, block_at}
 use Rattle.arena_script.specs.Running.{IsRun, EndsBy}
-use Rattle.arena_script.specs.RunLaws.{bare_state, AreAlike, IsUnrefused}
+use Rattle.arena_script.specs.OneOutcome.{bare_state, AreAlike, IsUnrefused}
 use Rattle.arena_script.proofs.StepLemmas.{bare_block, bare_ask, bare_capacity, bare_room, Left, GoesOn, goes_same, goes_then, unrefused_parts, taken, takes_goes, takes_left, denied_goes, denied_left, denied_same}
 
 -- ---- What commands ask for, without generations

@@ -15,7 +15,7 @@ use Rattle.arena_items.specs.Asks.{Ask, NoBlock, Fresh, Larger, solid, room_ask,
 use Rattle.arena_items.specs.Room.{SamePlaces}
 use Rattle.arena_items.specs.declared.room.Growth.{Growth}
 use Rattle.arena_items.specs.declared.room.Growth.TheVariants.{Stays as NoGrowth, GrowsTo, Overflows}
-use Rattle.arena_script.specs.RunLaws.{bare_state, IsUnrefused}
+use Rattle.arena_script.specs.OneOutcome.{bare_state, IsUnrefused}
 
 -- ---- Blocks, asks and outcomes, without generations
 

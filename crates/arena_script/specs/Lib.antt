@@ -7,4 +7,4 @@ pub mod Places
 pub mod Acts
 pub mod Serves
 pub mod Running
-pub mod RunLaws
+pub mod OneOutcome

@@ -1,6 +1,6 @@
 // What the promises of runs mean together, as facts. Each law is a function that does nothing: called in a body, it
 // provides its fact there.
-ghost use Rattle.arena_script.specs.RunLaws.{HasOneOutcome, FixedHasOneOutcome};
+ghost use Rattle.arena_script.specs.OneOutcome.{HasOneOutcome, FixedHasOneOutcome};
 
 /// Over arenas whose states differ at most by their generations, a script has one outcome and leaves such states, unless
 /// memory runs out or a source refuses a request.

@@ -6,7 +6,7 @@ use Rattle.arena_pool.specs.declared.kind.PoolKind.TheVariants.{FixedSize}
 use Rattle.script_rules.specs.declared.commands.Command.{Command}
 use Rattle.script_rules.specs.declared.commands.Ended.TheVariants as ended
 use Rattle.script_rules.specs.declared.outcome.Outcome.{Outcome}
-use Rattle.arena_script.specs.RunLaws.{IsFixed}
+use Rattle.arena_script.specs.OneOutcome.{IsFixed}
 use Rattle.arena_script.proofs.FixedLemmas.{fixed_way}
 use Rattle.arena_workers.specs.declared.served.Served.{Served}
 use Rattle.script_workers.specs.Serving.{IsServedAlone, IsRunAlone}
