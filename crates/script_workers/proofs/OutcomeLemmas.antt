@@ -10,7 +10,7 @@ use Rattle.arena_script.specs.OneOutcome.{IsFixed}
 use Rattle.arena_script.proofs.FixedLemmas.{fixed_way}
 use Rattle.arena_workers.specs.declared.served.Served.{Served}
 use Rattle.script_workers.specs.Serving.{IsServedAlone, IsRunAlone}
-use Rattle.script_workers.specs.ServingLaws.{HasOneOutcome}
+use Rattle.script_workers.specs.OneOutcome.{HasOneOutcome}
 
 ran_alone : {C : Type 0} (source : C → Source) (kind : PoolKind) (worked : List Command → Outcome → Type 0) (script : List Command)
     (served : Served Outcome C) → IsServedAlone source kind worked script served → served.outcome.ended ≢ ended.OutOfMemory

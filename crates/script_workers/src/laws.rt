@@ -1,6 +1,6 @@
 // What the promises of scripts mean together, as a fact. The law is a function that does nothing: called in a body, it
 // provides its fact there.
-ghost use Rattle.script_workers.specs.ServingLaws.{HasOneOutcome};
+ghost use Rattle.script_workers.specs.OneOutcome.{HasOneOutcome};
 
 use arena_chunks::ChunkSource;
 use arena_script::Job;
