@@ -1,7 +1,7 @@
 -- The report of one text.
 use Rattle.std.proofs.lemmas.Bool.Decides.{nat_tests}
-use Rattle.std.proofs.Common.{◌≡◌, ℕ, ◌+◌, ◌^◌, ◌≤◌, List, [], ◌∷◌, length, refl, ap, subst, inl, inr, true, false, Bool, Ok, Err, Some, None, arith}
-use Rattle.std.specs.Prelude.{◌*◌, ◌⊎◌, Option, Result, IfNone}
+use Rattle.std.proofs.Common.{◌≡◌, ℕ, ◌+◌, ◌^◌, ◌≤◌, List, [], ◌∷◌, length, refl, ap, inl, inr, true, false, Bool, Ok, Err, Some, None, arith}
+use Rattle.std.specs.Prelude.{◌⊎◌, Option, IfNone}
 use Rattle.arena_rules.specs.State.{used_bytes}
 use Rattle.arena_rules.proofs.AskingLemmas.{asks_more}
 use Rattle.arena_chunks.specs.Memory.{Memory}
@@ -11,41 +11,37 @@ use Rattle.arena_store.specs.declared.block.Block.{Block}
 use Rattle.arena_chunks.specs.Asking.{IsStarved, IsFull}
 use Rattle.arena_chunks.proofs.Layers.{all_of_both}
 use Rattle.arena_items.specs.Costs.{used}
-use Rattle.arena_items.specs.Denied.{Layouts, Only, IsDenied}
 use Rattle.arena_items.specs.declared.room.AllocError.{AllocError}
 use Rattle.arena_items.specs.declared.room.AllocError.TheVariants as alloc
 use Rattle.arena_vec.specs.Vecs.{vec_list}
-use Rattle.arena_symbols.specs.Calls.{State}
 use Rattle.arena_symbols.specs.Named.{AreNames, AreNewNames, all_blocks, all_credit}
 use Rattle.arena_symbols.specs.Names.{names_in}
 use Rattle.arena_symbols.specs.Scoping.{pair_count}
 use Rattle.arena_symbols.specs.Tables.{entry_item, scopes_in}
 use Rattle.arena_symbols.specs.declared.names.Names.{Names as Known}
-use Rattle.arena_symbols.proofs.Layers.{all_turned, denied_more, more_asked}
+use Rattle.arena_symbols.proofs.Layers.{all_turned}
 use Rattle.tree_rules.specs.Report.{findings_of}
 use Rattle.tree_rules.specs.Trees.{Stmts}
 use Rattle.tree_rules.specs.Refusals.{TreeOf}
 use Rattle.tree_rules.specs.Weights.{weights}
 use Rattle.arena_tree.specs.Given.{IsTreeIn, Means}
-use Rattle.arena_tree.specs.Layouts.{AskedFor}
 use Rattle.arena_tree.specs.Parsing.{ParsesInOnePass, TakesAtMost, IsProgramText, parse_bytes}
 use Rattle.arena_tree.specs.StmtsAt.{stmts_blocks}
 use Rattle.arena_tree.specs.TreesAt.{node_item}
 use Rattle.arena_tree.specs.declared.tree.Tree.{Tree}
-use Rattle.arena_tree.specs.Spending.{error_of}
 use Rattle.arena_tree.specs.declared.tree.TreeErr.{TreeErr}
 use Rattle.arena_tree.specs.declared.tree.TreeErr.TheVariants as tree
 use Rattle.arena_tree.proofs.Layers.{nodes_used, one_stmts}
+use Rattle.tree_rules.specs.declared.finding.Finding.{Finding}
 use Rattle.lint_reports.specs.Taking.{Taking}
 use Rattle.lint_reports.specs.Reports.{Reports, said}
 use Rattle.lint_reports.specs.declared.report.FileReport.{FileReport}
-use Rattle.lint_reports.specs.declared.report.FileReport.TheVariants.{Full, Refused, OutOfMemory}
+use Rattle.lint_reports.specs.declared.report.FileReport.TheVariants.{Checked, Full, Refused, OutOfMemory}
 use Rattle.arena_lint.specs.Knowing.{Knows}
-use Rattle.arena_symbols.specs.Serving.{state_in}
-use Rattle.arena_lint.specs.Linting.{Lints, Checks, LintsAsk, StopsInTree, StopsInWalk, lint_bytes, no_place, unparsed_by}
+use Rattle.arena_lint.specs.Linting.{Lints, Checks, StopsInTree, StopsInWalk, PlacesTree, WalksOver, lint_bytes, no_place, unparsed_by}
 use Rattle.arena_lint.specs.Rooms.{ListHasStmts, IsLight}
-use Rattle.arena_lint.specs.Spending.{Spends, Takes, numbers_in, walk_asks, walk_bytes}
-use Rattle.arena_lint.specs.Stopping.{nothing, after_stmts, StopsIn, Goes}
+use Rattle.arena_lint.specs.Spending.{Spends, Takes, numbers_in, walk_bytes}
+use Rattle.arena_lint.specs.Stopping.{WalksFrom}
 use Rattle.arena_lint.proofs.KnowLemmas.{no_names}
 use Rattle.arena_lint.proofs.SpendingLemmas.{spends_then, spends_nothing}
 
@@ -98,46 +94,39 @@ parsed_light bytes old new light small parsed given = record {
 -- A walk from nothing spends what the tree's statements take.
 pub nothing_spends : {old new : View} {t : Tree} {k l : Known} {error : Option AllocError} (trees : Stmts) → IsLight old.memory t
     → IsNothing k → Means old.memory t trees → Takes (weights trees) old new k l error
-    → Spends (walk_asks (1 + 2 * weights trees)) (walk_bytes (weights trees)) 0 0 old new error
+    → Spends (walk_bytes (weights trees)) 0 0 old new error
 nothing_spends {old} {k = k} trees is none means takes =
     let one : numbers_in old.memory k ≡ 1 = omega (
       arith,
       ap (λ (l : List (List ℕ)). length l) (none.names old.memory),
       ap (λ (l : List (List (ℕ × ℕ))). pair_count l + length l) (none.scopes old.memory),
     ) in
-    spends_then (more_asked (omega (arith, one))) (spends_nothing {layouts = Only 0 1} {bytes = 0} tt)
+    spends_then (spends_nothing {bytes = 0} tt)
     (takes.spends (omega (arith, one, is.light, ap weights (given_is is.tree trees means)))) (omega (arith, none.credit))
     (omega (arith, none.credit))
-
--- It is stopped at a block that the statements ask for.
-pub nothing_stops : {X : Type 0} {old new : View} {k l : Known} {result : Result X AllocError} (trees : Stmts) → IsNothing k
-    → Goes (after_stmts trees) (StopsIn trees) old new k l (error_of result) → (j : ℕ) → result ≡ Err (alloc.AllocErr j)
-    → StopsIn trees nothing new
-nothing_stops {old = old} {new = new} {k = k} trees none goes j is =
-    let start : state_in old.memory k ≡ nothing = rw (none.names old.memory, none.scopes old.memory) refl in
-    subst (λ (s : State). StopsIn trees s new) start (goes.stopped j (rw is refl))
 
 -- ---- What is spent
 
 -- A text's tree was not refused.
-pub parse_spends : {layouts : Layouts} {few all : ℕ} {old new : View} → few ≤ all → TakesAtMost few old new
-    → Spends layouts all 0 0 old new None
+pub parse_spends : {few all : ℕ} {old new : View} → few ≤ all → TakesAtMost few old new
+    → Spends all 0 0 old new None
 parse_spends {few = x0} {all = x1} {old = x2} {new = x3} less takes = grind (arith, nat_tests, asks_more)
 
 -- ---- Reports
 
 module _ {bytes : List ℕ} {old new : View} {error : Option AllocError} (unused : used old ≡ 0)
-    (spends : Spends (LintsAsk bytes) (lint_bytes (length bytes)) 0 0 old new error) where
+    (spends : Spends (lint_bytes (length bytes)) 0 0 old new error) where
   -- No more was taken than may be, on an arena of which nothing was used.
   lints : (report : FileReport) → Reports bytes report → IfNone (said report) (IsProgramText bytes)
-      → ((report ≡ Full) ⊎ (report ≡ Refused) → StopsInTree bytes old new ⊎ StopsInWalk bytes new)
+      → ((report ≡ Full) ⊎ (report ≡ Refused) → StopsInTree bytes old new ⊎ StopsInWalk bytes old new)
+      → ((findings : List Finding) → report ≡ Checked findings → WalksOver bytes old new)
       → (report ≡ Full → IsFull (lint_bytes (length bytes)) old) → (report ≡ Refused → IsStarved (2 ^ 62) old new)
       → Lints bytes old new report
-  lints report reports stopped denied full refused = grind (arith, nat_tests, asks_more)
+  lints report reports stopped denied walked full refused = grind (arith, nat_tests, asks_more)
 
   -- no place for a block
   lints_unplaced : (growing : Bool) → new.memory.state.is_growing ≡ growing → IsProgramText bytes
-      → StopsInTree bytes old new ⊎ StopsInWalk bytes new → (old.memory.state.is_growing ≡ true → IsStarved (2 ^ 62) old new)
+      → StopsInTree bytes old new ⊎ StopsInWalk bytes old new → (old.memory.state.is_growing ≡ true → IsStarved (2 ^ 62) old new)
       → (old.memory.state.is_growing ≡ false → IsFull (used old + lint_bytes (length bytes)) old) → Lints bytes old new (no_place growing)
   lints_unplaced growing is program denied starved full = grind (arith, nat_tests, lints)
 
@@ -152,28 +141,56 @@ module _ {bytes : List ℕ} {old new : View} {error : Option AllocError} (unused
 -- What a walk over a tree spends.
 abbrev Walks : View → View → Tree → Option AllocError → Type 0
 Walks old new t error = (trees : Stmts) → Means old.memory t trees
-    → Spends (walk_asks (1 + 2 * weights trees)) (walk_bytes (weights trees)) 0 0 old new error
+    → Spends (walk_bytes (weights trees)) 0 0 old new error
+
+-- and what it asks for
+abbrev Asks : View → View → Tree → Option AllocError → Type 0
+Asks old new t error = (trees : Stmts) → Means old.memory t trees → WalksFrom trees old new error
+
+placed : {bytes : List ℕ} {old mid : View} {t : Tree} (parsed : ParsesInOnePass bytes old mid (Ok t))
+    → TakesAtMost (parse_bytes (length bytes)) old mid → PlacesTree bytes parsed.0 old mid
+placed parsed takes = record { tree = parsed.1; takes = takes.takes }
 
 -- A program that was walked over.
 module _ {bytes : List ℕ} {old mid new : View} (t : Tree) (light : AreLight) (unused : used old ≡ 0) (parsed : ParsesInOnePass bytes old mid (Ok t))
     (takes : TakesAtMost (parse_bytes (length bytes)) old mid) where
   all_spends : {error : Option AllocError} → Walks mid new t error
-      → Spends (LintsAsk bytes) (lint_bytes (length bytes)) 0 0 old new error
+      → Spends (lint_bytes (length bytes)) 0 0 old new error
   all_spends walks = let few = light bytes parsed.0 parsed.1 in
-      spends_then (λ size align asks. inr (more_asked (omega (arith, few)) size align asks))
-      (parse_spends {layouts = AskedFor bytes} {all = parse_bytes (length bytes)} (omega arith) takes) (walks parsed.0 parsed.2.stand)
+      spends_then (parse_spends {all = parse_bytes (length bytes)} (omega arith) takes) (walks parsed.0 parsed.2.stand)
       (omega (arith, few)) (omega (arith, few))
 
   pub checked : {F : Type 0} (taking : Taking F) {first found : F}
       → ((trees : Stmts) → Means mid.memory t trees → taking.gains first found (findings_of trees)) → Walks mid new t None
-      → Checks taking bytes old new first found
-  checked taking gained walks = grind (arith, nat_tests, lints, all_spends)
+      → Asks mid new t None → Checks taking bytes old new first found
+  checked taking gained walks asks =
+      let from = asks parsed.0 parsed.2.stand in
+      let over : WalksOver bytes old new = record {
+        trees = parsed.0;
+        mid = mid;
+        tree = placed parsed takes;
+        first = from.first;
+        last = from.last;
+        none = from.none;
+        did = from.goes.did refl;
+      } in
+      grind (arith, nat_tests, lints, all_spends, over)
 
   pub unplaced : (k : ℕ) → Walks mid new t (Some (alloc.AllocErr k))
-      → ((trees : Stmts) → Means mid.memory t trees → StopsIn trees nothing new) → Lints bytes old new (no_place new.memory.state.is_growing)
-  unplaced k walks stops = let spent = all_spends walks in
+      → Asks mid new t (Some (alloc.AllocErr k)) → Lints bytes old new (no_place new.memory.state.is_growing)
+  unplaced k walks asks =
+      let spent = all_spends walks in
+      let from = asks parsed.0 parsed.2.stand in
       lints_unplaced unused spent new.memory.state.is_growing refl (parsed.0, parsed.1)
-      (inr (record { trees = parsed.0; tree = parsed.1; stops = stops parsed.0 parsed.2.stand }))
+      (inr (record {
+        trees = parsed.0;
+        mid = mid;
+        tree = placed parsed takes;
+        first = from.first;
+        none = from.none;
+        refusals = k;
+        stops = from.goes.stopped k refl;
+      }))
       (λ growing. record { growing = growing; cause = grind (arith, spent.starved growing k refl) })
       (λ still. let short = spent.full still k refl in record { still = still; short = omega (arith, short.short) })
 

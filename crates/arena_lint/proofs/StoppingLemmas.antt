@@ -1,25 +1,27 @@
--- What is known after each call of a walk, and where one is stopped.
+-- What the calls of a walk ask for, and where one is stopped.
 use Rattle.std.proofs.lemmas.Bool.Decides.{nat_tests}
-use Rattle.std.proofs.Common.{◌≡◌, ℕ, ◌≤◌, ◌⊎◌, inl, inr, List, [], ◌∷◌, length, refl, sym, ap, subst, ◌∙◌, arith, Bool, true, false, not, Ok, Err, Some, None}
+use Rattle.std.proofs.Common.{◌≡◌, ◌≢◌, ℕ, ◌≤◌, inl, inr, List, [], ◌∷◌, length, refl, sym, ap, subst, ◌∙◌, arith, Bool, true, false, not, Ok, Err, Some, None}
 use Rattle.std.specs.Prelude.{Result, Option, IsErr, IsErrAnd, if◌then◌else◌}
-use Rattle.std.proofs.lemmas.Option.{none-some, same_Some}
-use Rattle.arena_chunks.specs.Memory.{Memory}
+use Rattle.arena_chunks.specs.Answers.{Answer}
+use Rattle.arena_chunks.specs.Answers.Answer.{Refused}
 use Rattle.arena_chunks.specs.Source.{View}
+use Rattle.arena_items.specs.Asks.{refusal, Asked}
 use Rattle.arena_items.specs.declared.room.AllocError.{AllocError}
-use Rattle.arena_items.specs.declared.room.AllocError.TheVariants.{AllocErr}
+use Rattle.arena_items.specs.declared.room.AllocError.TheVariants.{AllocErr, CapacityOverflow, OutOfMemory}
+use Rattle.arena_symbols.specs.Asks.{list_ask}
 use Rattle.arena_symbols.specs.Calls.{State, has_outer}
 use Rattle.arena_symbols.specs.Interner.{number_of, with_text}
-use Rattle.arena_symbols.specs.Interning.{Interns}
-use Rattle.arena_symbols.specs.Named.{AreNames}
+use Rattle.arena_symbols.specs.Interning.{Interns, IsTextDenied}
+use Rattle.arena_symbols.specs.Listing.{place_item}
+use Rattle.arena_symbols.specs.Named.{AreNames, IsNumbered}
 use Rattle.arena_symbols.specs.Names.{names_in}
 use Rattle.arena_symbols.specs.Scoping.{is_in_last, with_pair, outer_of}
-use Rattle.arena_symbols.specs.Serving.{state_in}
-use Rattle.arena_symbols.specs.TableCalls.{Defines, Enters, Leaves}
+use Rattle.arena_symbols.specs.TableCalls.{Defines, Enters, Leaves, IsPairDenied}
 use Rattle.arena_symbols.specs.Tables.{entry_item, scopes_in}
 use Rattle.arena_symbols.specs.declared.scopes.Scopes.{Scopes}
 use Rattle.arena_symbols.specs.declared.symbols.Symbols.{Symbols}
 use Rattle.arena_symbols.specs.declared.names.Names.{Names as Known}
-use Rattle.arena_symbols.proofs.Layers.{denied_more, texts_moved, scopes_moved}
+use Rattle.arena_symbols.proofs.Layers.{texts_moved, scopes_moved}
 use Rattle.tree_rules.specs.Trees.{Stmt, Let, Show, Stmts, NoStmts, Then}
 use Rattle.tree_rules.specs.Trees as tree
 use Rattle.tree_nodes.specs.declared.node.Kind.TheVariants as kind
@@ -27,7 +29,13 @@ use Rattle.tree_nodes.specs.declared.node.Node.{Node}
 use Rattle.arena_tree.specs.Spending.{error_of}
 use Rattle.arena_tree.specs.StmtsAt.{StmtAt}
 use Rattle.arena_lint.specs.Spending.{IsExhausted}
-use Rattle.arena_lint.specs.Stopping.{entered, ended, with_id, named, after_stmt, after_stmts, IsHeldUp, StopsAtName, StopsAtBlock, StopsAt, StopsIn, Goes, GoesOn}
+use Rattle.arena_lint.specs.Stopping.{with_id, DoesName, BeginsBlock, EndsBlock, Does, DoesAll, StopsAtName, StopsAtBlock, StopsAt, StopsIn, Goes, GoesOn}
+
+abbrev Effect : Type 1
+Effect = View → Known → View → Known → Type 0
+
+abbrev Stop : Type 1
+Stop = View → Known → View → Answer → Type 0
 
 abbrev Maps : Type 0
 Maps = List (List (ℕ × ℕ))
@@ -37,42 +45,41 @@ same_state : {texts names : List (List ℕ)} {scopes maps : Maps} → texts ≡ 
 same_state one two = rw (one, two) refl
 
 -- what `?` passes on
-pub err_goes : {X : Type 0} {after : State → State} {Stops : State → View → Type 0} {old new : View} {k l : Known} (result : Result X AllocError)
-    {e : AllocError} → IsErr result × IsErrAnd result (λ f. f ≡ e) → Goes after Stops old new k l (Some e)
-    → Goes after Stops old new k l (error_of result)
+pub err_goes : {X : Type 0} {Did : Effect} {Stops : Stop} {old new : View} {k l : Known} (result : Result X AllocError)
+    {e : AllocError} → IsErr result × IsErrAnd result (λ f. f ≡ e) → Goes Did Stops old new k l (Some e)
+    → Goes Did Stops old new k l (error_of result)
 err_goes result is goes = grind (arith, nat_tests)
 
 -- memory may run out after a call
-pub goes_exhausted : {after : State → State} {Stops : State → View → Type 0} {old new : View} {k l : Known} {error : Option AllocError}
-    → IsExhausted error → Goes after Stops old new k l None → Goes after Stops old new k l error
+pub goes_exhausted : {Did : Effect} {Stops : Stop} {old new : View} {k l : Known} {error : Option AllocError}
+    → IsExhausted error → Goes Did Stops old new k l None → Goes Did Stops old new k l error
 goes_exhausted {error = None} exhausted goes = goes
 goes_exhausted {error = Some e} exhausted goes = record {
-  state = λ never. absurd (cc);
+  did = λ never. absurd (cc);
   stopped = λ j is. absurd (cc exhausted);
 }
 
 -- memory runs out
-pub goes_out : {after : State → State} {Stops : State → View → Type 0} {old new : View} {k l : Known} {e : AllocError}
-    → IsExhausted (Some e) → Goes after Stops old new k l (Some e)
-goes_out exhausted = record { state = λ never. absurd (cc); stopped = λ j is. absurd (cc exhausted) }
+pub goes_out : {Did : Effect} {Stops : Stop} {old new : View} {k l : Known} {e : AllocError}
+    → IsExhausted (Some e) → Goes Did Stops old new k l (Some e)
+goes_out exhausted = record { did = λ never. absurd (cc); stopped = λ j is. absurd (cc exhausted) }
+
+-- a refusal by the arena, in its answer
+refused_as : (P : Answer → Type 0) (e : AllocError) (n : ℕ) → ◌≡◌ {A = Option AllocError} (Some e) (Some (AllocErr n))
+    → (e ≢ CapacityOverflow → P (refusal e)) → P (Refused n)
+refused_as P (AllocErr m) n is goes = let same : m ≡ n = cc is in subst (λ i. P (Refused i)) same (goes (λ no. absurd (cc)))
+refused_as P OutOfMemory n is goes = absurd (cc is)
+refused_as P CapacityOverflow n is goes = absurd (cc is)
 
 -- ---- A definition
 
 pub unnamed_goes : {old mid : View} {k : Known} {t : Symbols} {name : List ℕ} {e : AllocError} → AreNames old.memory k
-    → Interns old mid k.symbols t name (Err e) → Goes (named name) (StopsAtName name) old mid k (record k { symbols = t }) (Some e)
-unnamed_goes {old} {mid} {k} {t} {name} {e} held interns = let one = texts_moved held interns in record {
-  state = λ never. absurd (cc);
-  stopped = λ j is. inl (
-    interns.fresh,
-    record {
-      known = record k { symbols = t };
-      held = one.0.held;
-      stand = same_state interns.kept one.1;
-      denied = elim (interns.denied j (cc is)) [
-        | inl placed ↦ denied_more (λ size align asks. inl asks) placed.0
-        | inr listed ↦ denied_more (λ size align asks. inr asks) listed
-      ];
-    },
+    → Interns old mid k.symbols t name (Err e) → Goes (DoesName name) (StopsAtName name) old mid k (record k { symbols = t }) (Some e)
+unnamed_goes {old} {mid} {k} {t} {name} {e} held interns = record {
+  did = λ never. absurd (cc);
+  stopped = λ n is. (
+    record k { symbols = t },
+    inl (refused_as (λ answer. IsTextDenied old mid k.symbols t name answer) e n is interns.denied),
   );
 }
 
@@ -84,61 +91,59 @@ number : {old mid : View} {s t : Symbols} {name : List ℕ} {id : ℕ} → Inter
     → number_of (with_text (names_in old.memory s) name) name ≡ Some id
 number {name = name} interns = ap (λ (l : List (List ℕ)). number_of l name) (sym interns.names) ∙ interns.number
 
+numbered : {old mid : View} {k : Known} {t : Symbols} {name : List ℕ} {id : ℕ} (d : Scopes) → AreNames old.memory k
+    → Interns old mid k.symbols t name (Ok id) → IsNumbered old mid k (record { symbols = t; scopes = d }) name id
+numbered d held interns = record { took = interns.took; number = interns.number; same = (texts_moved held interns).1 }
+
 module _ {old mid new : View} {k : Known} {t : Symbols} {d : Scopes} {name : List ℕ} {id : ℕ} (held : AreNames old.memory k)
     (interns : Interns old mid k.symbols t name (Ok id)) where
-  pub defined_goes : {b : Bool} → Defines entry_item mid new k.scopes d id 0 (Ok b)
-      → Goes (named name) (StopsAtName name) old new k (record { symbols = t; scopes = d }) None
+  defined_goes : {b : Bool} → Defines entry_item mid new k.scopes d id 0 (Ok b)
+      → Goes (DoesName name) (StopsAtName name) old new k (record { symbols = t; scopes = d }) None
   defined_goes {b} puts =
       let one = texts_moved held interns in
       let two = scopes_moved one.0.held d puts.held puts.frame in
       let before = scopes_in entry_item mid.memory k.scopes in
       let put : scopes_in entry_item new.memory d ≡ with_id (Some id) before
-      = puts.scopes ∙ ap (λ (is_new : Bool). if is_new then with_pair before id 0 else before) puts.says ∙ put_as (is_in_last before id) before (with_pair before id 0) in
+      = puts.scopes ∙ ap (λ (is_new : Bool). if is_new then with_pair before id 0 else before) puts.says
+      ∙ put_as (is_in_last before id) before (with_pair before id 0) in
       record {
-        state = λ is. same_state (two.1 ∙ interns.names) (put ∙ ap (λ (o : Option ℕ). with_id o before) (sym (number interns))
-            ∙ ap (with_id (number_of (with_text (names_in old.memory k.symbols) name) name)) one.1);
-        stopped = λ j never. absurd (cc);
-      }
-
-  pub undefined_goes : {e : AllocError} → Defines entry_item mid new k.scopes d id 0 (Err e)
-      → Goes (named name) (StopsAtName name) old new k (record { symbols = t; scopes = d }) (Some e)
-  undefined_goes {e} puts =
-      let one = texts_moved held interns in
-      let two = scopes_moved one.0.held d puts.held puts.frame in
-      record {
-        state = λ never. absurd (cc);
-        stopped = λ j is. inr (
-          id,
-          number interns,
-          rw (← one.1) puts.fresh,
-          record {
-            known = record { symbols = t; scopes = d };
+        did = λ is. record {
+          becomes = record {
             held = two.0.held;
-            stand = same_state (two.1 ∙ interns.names) (puts.kept ∙ one.1);
-            denied = rw (← one.1) (puts.denied j (cc is));
-          },
-        );
+            state = same_state (two.1 ∙ interns.names) (put ∙ ap (λ (o : Option ℕ). with_id o before) (sym (number interns))
+                ∙ ap (with_id (number_of (with_text (names_in old.memory k.symbols) name) name)) one.1);
+          };
+          took = (mid, id, numbered d held interns, puts.took);
+        };
+        stopped = λ n never. absurd (cc);
       }
 
   pub define_goes : {result : Result Bool AllocError} → Defines entry_item mid new k.scopes d id 0 result
-      → Goes (named name) (StopsAtName name) old new k (record { symbols = t; scopes = d }) (error_of result)
+      → Goes (DoesName name) (StopsAtName name) old new k (record { symbols = t; scopes = d }) (error_of result)
   define_goes {result = Ok b} puts = defined_goes puts
-  define_goes {result = Err e} puts = undefined_goes puts
+  define_goes {result = Err e} puts = record {
+    did = λ never. absurd (cc);
+    stopped = λ n is. (
+      record { symbols = t; scopes = d },
+      inr (mid, id, numbered d held interns, refused_as (λ answer. IsPairDenied entry_item mid new k.scopes d id answer) e n is puts.denied),
+    );
+  }
 
 -- ---- Blocks
 
 pub begun_goes : {old new : View} {k : Known} {d : Scopes} {result : Result (Unit {0}) AllocError} → AreNames old.memory k
-    → Enters entry_item old new k.scopes d result → Goes entered StopsAtBlock old new k (record k { scopes = d }) (error_of result)
-begun_goes {d = d} {result = Ok x} held enters = let one = scopes_moved held d enters.held enters.frame in
-    record { state = λ is. same_state one.1 enters.scopes; stopped = λ j never. absurd (cc) }
-begun_goes {k = k} {d = d} {result = Err e} held enters = let one = scopes_moved held d enters.held enters.frame in record {
-  state = λ never. absurd (cc);
-  stopped = λ j is. record {
-    known = record k { scopes = d };
-    held = one.0.held;
-    stand = same_state one.1 enters.kept;
-    denied = enters.denied j (cc is);
+    → Enters entry_item old new k.scopes d result → Goes BeginsBlock StopsAtBlock old new k (record k { scopes = d }) (error_of result)
+begun_goes {d = d} {result = Ok x} held enters = let one = scopes_moved held d enters.held enters.frame in record {
+  did = λ is. record {
+    becomes = record { held = one.0.held; state = same_state one.1 enters.scopes };
+    symbols = refl;
+    took = enters.took;
   };
+  stopped = λ n never. absurd (cc);
+}
+begun_goes {old = old} {new = new} {k = k} {result = Err e} held enters = record {
+  did = λ never. absurd (cc);
+  stopped = λ n is. refused_as (λ answer. Asked (list_ask place_item k.scopes.starts) old new answer) e n is enters.denied;
 }
 
 has_two : (scopes : Maps) → 2 ≤ length scopes → has_outer scopes ≡ true
@@ -151,67 +156,76 @@ has_one [] one = refl
 has_one (s ∷ []) one = refl
 has_one (s ∷ t ∷ outer) one = absurd (omega (arith, one))
 
-pub ended_goes : {old new : View} {k : Known} {d : Scopes} (result : Bool) → AreNames old.memory k
-    → Leaves entry_item old new k.scopes d result → state_in new.memory (record k { scopes = d }) ≡ ended (state_in old.memory k)
-ended_goes {old} {new} {k} {d} true held leaves = same_state (scopes_moved held d leaves.held leaves.frame).1
-    (leaves.left refl ∙ sym (ap (λ (b : Bool). if b then outer_of (scopes_in entry_item old.memory k.scopes) else scopes_in entry_item old.memory k.scopes)
-    (has_two (scopes_in entry_item old.memory k.scopes) (leaves.more refl))))
-ended_goes {old} {new} {k} {d} false held leaves =
+ended_state : {old new : View} (k : Known) {d : Scopes} (result : Bool) → Leaves entry_item old new k.scopes d result
+    → scopes_in entry_item new.memory d
+    ≡ (if has_outer (scopes_in entry_item old.memory k.scopes) then outer_of (scopes_in entry_item old.memory k.scopes)
+    else scopes_in entry_item old.memory k.scopes)
+ended_state {old} k true leaves = leaves.left refl
+    ∙ sym (ap (λ (b : Bool). if b then outer_of (scopes_in entry_item old.memory k.scopes) else scopes_in entry_item old.memory k.scopes)
+    (has_two (scopes_in entry_item old.memory k.scopes) (leaves.more refl)))
+ended_state {old} {new} k {d} false leaves =
     let alone = leaves.alone refl in
     let same : scopes_in entry_item new.memory d ≡ scopes_in entry_item old.memory k.scopes = rw (alone.1, alone.2) refl in
-    same_state (scopes_moved held d leaves.held leaves.frame).1
-    (same ∙ sym (ap (λ (b : Bool). if b then outer_of (scopes_in entry_item old.memory k.scopes) else scopes_in entry_item old.memory k.scopes)
-    (has_one (scopes_in entry_item old.memory k.scopes) alone.0)))
+    same ∙ sym (ap (λ (b : Bool). if b then outer_of (scopes_in entry_item old.memory k.scopes) else scopes_in entry_item old.memory k.scopes)
+    (has_one (scopes_in entry_item old.memory k.scopes) alone.0))
+
+pub ended_goes : {old new : View} {k : Known} {d : Scopes} (result : Bool) → AreNames old.memory k
+    → Leaves entry_item old new k.scopes d result → EndsBlock old k new (record k { scopes = d })
+ended_goes {k = k} {d = d} result held leaves = let moved = scopes_moved held d leaves.held leaves.frame in record {
+  becomes = record { held = moved.0.held; state = same_state moved.1 (ended_state k result leaves) };
+  symbols = refl;
+  blocks = leaves.blocks;
+  places = leaves.places;
+}
 
 module _ {old mid : View} {k l : Known} {s : Stmt} {ss : Stmts} (is : s ≡ tree.Block ss) where
-  pub unbegun_stops : {e : AllocError} → Goes entered StopsAtBlock old mid k l (Some e) → Goes (after_stmt s) (StopsAt s) old mid k l (Some e)
-  unbegun_stops goes = rw is (record { state = λ never. absurd (cc); stopped = λ j no. inl (goes.stopped j no) })
+  pub unbegun_stops : {e : AllocError} → Goes BeginsBlock StopsAtBlock old mid k l (Some e) → Goes (Does s) (StopsAt s) old mid k l (Some e)
+  unbegun_stops goes = rw is (record { did = λ never. absurd (cc); stopped = λ n no. inl (goes.stopped n no) })
 
-  module _ {new : View} {j : Known} (begun : Goes entered StopsAtBlock old mid k l None) where
-    pub body_stops : {e : AllocError} → Goes (after_stmts ss) (StopsIn ss) mid new l j (Some e)
-        → Goes (after_stmt s) (StopsAt s) old new k j (Some e)
-    body_stops goes = rw is (record {
-      state = λ never. absurd (cc);
-      stopped = λ i no. inr (subst (λ (x : State). StopsIn ss x new) (begun.state refl) (goes.stopped i no));
-    })
+  module _ {new : View} {j : Known} (begun : Goes BeginsBlock StopsAtBlock old mid k l None) where
+    pub body_stops : {e : AllocError} → Goes (DoesAll ss) (StopsIn ss) mid new l j (Some e) → Goes (Does s) (StopsAt s) old new k j (Some e)
+    body_stops goes =
+        rw is (record { did = λ never. absurd (cc); stopped = λ n no. inr (mid, l, begun.did refl, goes.stopped n no) })
 
-    pub block_goes : {far : View} {i : Known} → Goes (after_stmts ss) (StopsIn ss) mid new l j None
-        → state_in far.memory i ≡ ended (state_in new.memory j) → Goes (after_stmt s) (StopsAt s) old far k i None
-    block_goes goes left = rw is (record {
-      state = λ none. left ∙ ap ended (goes.state refl ∙ ap (after_stmts ss) (begun.state refl));
-      stopped = λ i never. absurd (cc);
+    pub block_goes : {far : View} {i : Known} → Goes (DoesAll ss) (StopsIn ss) mid new l j None → EndsBlock new j far i
+        → Goes (Does s) (StopsAt s) old far k i None
+    block_goes goes ends = rw is (record {
+      did = λ none. (mid, l, begun.did refl, new, j, goes.did refl, ends);
+      stopped = λ n never. absurd (cc);
     })
 
 -- ---- Statements that show
 
 pub show_goes : {a : View} {k : Known} {error : Option AllocError} (s : Stmt) (n : Node) → StmtAt s a.memory n → (n.kind ≡ kind.Let → ⊥)
-    → (n.kind ≡ kind.Block → ⊥) → IsExhausted error → Goes (after_stmt s) (StopsAt s) a a k k error
+    → (n.kind ≡ kind.Block → ⊥) → IsExhausted error → Goes (Does s) (StopsAt s) a a k k error
 show_goes (Let name e) n at no-let no-block exhausted = absurd (no-let at.0)
 show_goes (tree.Block body) n at no-let no-block exhausted = absurd (no-block at.0)
 show_goes (Show e) n at no-let no-block exhausted =
-    goes_exhausted exhausted (record { state = λ none. refl; stopped = λ j never. absurd (cc) })
+    goes_exhausted exhausted (record { did = λ none. (refl, refl); stopped = λ j never. absurd (cc) })
 
 -- ---- Some of the statements
 
 pub goes_from : (ss : Stmts) (a : View) (k : Known) → GoesOn ss ss a a k k
-goes_from ss a k = record { state = refl; stopped = λ new stops. stops }
+goes_from ss a k = record { did = λ new j all. all; stopped = λ new answer stops. stops }
 
 module _ {ss left rest : Stmts} {s : Stmt} {old now new : View} {k l j : Known} (is : left ≡ Then s rest) (on : GoesOn ss left old now k l) where
-  pub goes_next : Goes (after_stmt s) (StopsAt s) now new l j None → GoesOn ss rest old new k j
+  pub goes_next : Goes (Does s) (StopsAt s) now new l j None → GoesOn ss rest old new k j
   goes_next goes = record {
-    state = ap (after_stmts rest) (goes.state refl) ∙ (rw is at on.state);
-    stopped = λ v stops. on.stopped v (subst (λ (t : Stmts). StopsIn t (state_in now.memory l) v) (sym is)
-        (inr (subst (λ (x : State). StopsIn rest x v) (goes.state refl) stops)));
+    did = λ v i all. on.did v i (subst (λ (t : Stmts). DoesAll t now l v i) (sym is) (new, j, goes.did refl, all));
+    stopped = λ v answer stops. on.stopped v answer
+        (subst (λ (t : Stmts). StopsIn t now l v answer) (sym is) (inr (new, j, goes.did refl, stops)));
   }
 
-  pub goes_short : {e : AllocError} → Goes (after_stmt s) (StopsAt s) now new l j (Some e)
-      → Goes (after_stmts ss) (StopsIn ss) old new k j (Some e)
+  pub goes_short : {e : AllocError} → Goes (Does s) (StopsAt s) now new l j (Some e) → Goes (DoesAll ss) (StopsIn ss) old new k j (Some e)
   goes_short goes = record {
-    state = λ never. absurd (cc);
-    stopped = λ i no. on.stopped new
-        (subst (λ (t : Stmts). StopsIn t (state_in now.memory l) new) (sym is) (inl (goes.stopped i no)));
+    did = λ never. absurd (cc);
+    stopped = λ n no. on.stopped new (Refused n)
+        (subst (λ (t : Stmts). StopsIn t now l new (Refused n)) (sym is) (inl (goes.stopped n no)));
   }
 
 pub goes_all : {ss left : Stmts} {old now : View} {k l : Known} → left ≡ NoStmts → GoesOn ss left old now k l
-    → Goes (after_stmts ss) (StopsIn ss) old now k l None
-goes_all is on = record { state = λ none. rw is at on.state; stopped = λ j never. absurd (cc) }
+    → Goes (DoesAll ss) (StopsIn ss) old now k l None
+goes_all {now = now} {l = l} is on = record {
+  did = λ none. on.did now l (subst (λ (t : Stmts). DoesAll t now l now l) (sym is) (refl, refl));
+  stopped = λ n never. absurd (cc);
+}

@@ -1,19 +1,16 @@
 -- What a definition takes, and what the beginning and the end of a block do.
 use Rattle.std.proofs.lemmas.Bool.Decides.{nat_tests}
 use Rattle.std.proofs.Common.{◌≡◌, ℕ, ◌+◌, ◌*◌, ◌≤◌, List, [], ◌∷◌, length, length-append, ap, ◌∙◌, arith, Bool, Ok, Err, Some, None}
-use Rattle.std.specs.Prelude.{Result, OnErr, map, if◌then◌else◌}
+use Rattle.std.specs.Prelude.{Result, map, if◌then◌else◌}
 use Rattle.std.proofs.lemmas.List.Sums.{sum_by-cons}
 use Rattle.arena_chunks.specs.Source.{View}
 use Rattle.arena_chunks.specs.Frame.{Frame}
 use Rattle.arena_items.specs.Costs.{Costs}
-use Rattle.arena_items.specs.Denied.{Only, IsDenied}
 use Rattle.arena_items.specs.declared.room.AllocError.{AllocError}
-use Rattle.arena_items.specs.declared.room.AllocError.TheVariants.{AllocErr, CapacityOverflow}
+use Rattle.arena_items.specs.declared.room.AllocError.TheVariants.{CapacityOverflow}
 use Rattle.arena_items.proofs.Layers.{costs_nothing}
-use Rattle.arena_symbols.specs.Asks.{LongerList}
 use Rattle.arena_symbols.specs.Interner.{with_text, most_texts}
 use Rattle.arena_symbols.specs.Interning.{Interns}
-use Rattle.arena_symbols.specs.Listing.{place_item}
 use Rattle.arena_symbols.specs.Named.{AreNames, all_credit}
 use Rattle.arena_symbols.specs.Names.{names_in}
 use Rattle.arena_symbols.specs.Paying.{far_up}
@@ -23,9 +20,9 @@ use Rattle.arena_symbols.specs.Tables.{entry_item, IsTableIn, scopes_in, table_b
 use Rattle.arena_symbols.specs.declared.scopes.Scopes.{Scopes}
 use Rattle.arena_symbols.specs.declared.symbols.Symbols.{Symbols}
 use Rattle.arena_symbols.specs.declared.names.Names.{Names as Known}
-use Rattle.arena_symbols.proofs.Layers.{texts_moved, scopes_moved, text_asks, map_asks, pair_asks}
+use Rattle.arena_symbols.proofs.Layers.{texts_moved, scopes_moved}
 use Rattle.arena_tree.specs.Spending.{error_of}
-use Rattle.arena_lint.specs.Spending.{Spends, Takes, numbers_in, walk_asks, walk_bytes}
+use Rattle.arena_lint.specs.Spending.{Spends, Takes, numbers_in, walk_bytes}
 use Rattle.arena_lint.proofs.SpendingLemmas.{frame_kind, spends_costs, spends_then, spends_nothing}
 
 -- ---- Numbers
@@ -51,20 +48,17 @@ size_outer scopes = grind (arith, nat_tests, size_cons)
 
 name_spends : {old mid : View} (k : Known) {t : Symbols} {name : List ℕ} {result : Result ℕ AllocError}
     → numbers_in old.memory k + 2 * (1 + length name) ≤ most_texts → Interns old mid k.symbols t name result
-    → Spends (walk_asks (numbers_in old.memory k + 2 * (1 + length name))) (1024 + length name) (all_credit k)
+    → Spends (1024 + length name) (all_credit k)
     (all_credit (record k { symbols = t })) old mid (error_of result)
 name_spends {old} {mid} k {t} {name} few interns = spends_costs interns.pays.costs (frame_kind interns.texts.1.frame)
     (λ is. omega (arith, (interns.overflows.0 is).1, few))
-    (λ j is. let same : names_in mid.memory t ≡ names_in old.memory k.symbols = rw is at interns.kept in
-    text_asks mid (numbers_in old.memory k + 2 * (1 + length name)) (omega (arith, few)) old t name interns.held
-    (omega (arith, ap (λ (l : List (List ℕ)). length l) same)) (omega arith) (interns.denied j is))
     (omega arith) (omega arith)
 
 pub unnamed_takes : {old mid : View} {k : Known} {t : Symbols} {name : List ℕ} {e : AllocError}
     → Interns old mid k.symbols t name (Err e) → Takes (1 + length name) old mid k (record k { symbols = t }) (Some e)
 unnamed_takes {k = k} interns = record {
   numbers = λ never. absurd (cc);
-  spends = λ few. spends_then (λ size align is. is) (spends_nothing {layouts = Only 0 1} {bytes = 0} tt) (name_spends k few interns)
+  spends = λ few. spends_then (spends_nothing {bytes = 0} tt) (name_spends k few interns)
       (omega arith) (omega arith);
 }
 
@@ -83,12 +77,9 @@ define_takes {old} {mid} {new} {k} {t} {d} {name} {id} {result} held interns put
             more,
             ap size one.1,
           );
-      spends = λ few. spends_then {after = all_credit (record { symbols = t; scopes = d })} (λ size align is. is) (name_spends k few interns)
+      spends = λ few. spends_then {after = all_credit (record { symbols = t; scopes = d })} (name_spends k few interns)
           (spends_costs {many = 512} puts.pays.costs (frame_kind puts.frame)
           (λ is. omega (arith, (puts.overflows.0 is).1, ap pair_count one.1, few))
-          (λ j is. let same : scopes_in entry_item new.memory d ≡ scopes_in entry_item mid.memory k.scopes = rw is at puts.kept in
-          pair_asks new (numbers_in old.memory k + 2 * (1 + length name)) (omega (arith, few)) d puts.held mid k.scopes id
-          (omega (arith, ap pair_count same, ap pair_count one.1)) (puts.denied j is))
           (omega arith) (omega arith)) (omega arith) (omega arith);
     }
 
@@ -99,27 +90,22 @@ scopes_take : {X : Type 0} {weight few : ℕ} {old new : View} {k : Known} {d : 
     → IsTableIn entry_item new.memory d → Frame old.memory new.memory (table_blocks k.scopes) (table_blocks d)
     → Costs far_up few (table_credit k.scopes) (table_credit d) old new result → few ≤ walk_bytes weight
     → (result ≡ Err CapacityOverflow → most_scopes ≤ length (scopes_in entry_item old.memory k.scopes))
-    → ((j : ℕ) → result ≡ Err (AllocErr j) → IsDenied (LongerList place_item d.starts) new)
-    → OnErr result (scopes_in entry_item new.memory d ≡ scopes_in entry_item old.memory k.scopes)
     → (error_of result ≡ None → size (scopes_in entry_item new.memory d) ≤ size (scopes_in entry_item old.memory k.scopes) + 2 * weight)
     → Takes weight old new k (record k { scopes = d }) (error_of result)
-scopes_take {weight = weight} {old = old} {new = new} {k = k} {d = d} held there frame costs less overflows denied kept more = record {
+scopes_take {weight = weight} {old = old} {new = new} {k = k} {d = d} held there frame costs less overflows more = record {
   numbers = λ is. omega (arith, ap (λ (l : List (List ℕ)). length l) (scopes_moved held d there frame).1, more is);
   spends = λ fit.
       spends_costs costs (frame_kind frame) (λ is. omega (arith, overflows is, fit))
-      (λ j is. let same : scopes_in entry_item new.memory d ≡ scopes_in entry_item old.memory k.scopes = rw is at kept in
-      map_asks new (numbers_in old.memory k + 2 * weight) (omega (arith, fit)) d there
-      (omega (arith, ap (λ (l : List (List (ℕ × ℕ))). length l) same)) (denied j is))
       (omega (arith, less)) (omega (arith, less));
 }
 
 pub begun_takes : {old new : View} {k : Known} {d : Scopes} {result : Result (Unit {0}) AllocError} → AreNames old.memory k
     → Enters entry_item old new k.scopes d result → Takes 1 old new k (record k { scopes = d }) (error_of result)
 begun_takes {old} {new} {k} {d} {result} held enters = scopes_take held enters.held enters.frame enters.pays.costs (omega arith)
-    enters.overflows.0 enters.denied enters.kept (λ is. grind (arith, enters.scopes, is, size_cons [] (scopes_in entry_item old.memory k.scopes)))
+    enters.overflows.0 (λ is. grind (arith, enters.scopes, is, size_cons [] (scopes_in entry_item old.memory k.scopes)))
 
 pub ended_takes : {old new : View} {k : Known} {d : Scopes} {result : Bool} → AreNames old.memory k
     → Leaves entry_item old new k.scopes d result → Takes 0 old new k (record k { scopes = d }) None
 ended_takes {old} {new} {k} {d} {result} held leaves = scopes_take {result = Ok tt} held leaves.held leaves.frame
     (costs_nothing {X = Unit {0}} far_up 0 (table_credit k.scopes) (table_credit d) old new tt leaves.places (omega (arith, leaves.credit)))
-    (omega arith) (λ never. absurd (cc)) (λ j no. absurd (cc)) tt (λ is. grind (arith, leaves.left, leaves.alone, size_outer))
+    (omega arith) (λ never. absurd (cc)) (λ is. grind (arith, leaves.left, leaves.alone, size_outer))

@@ -28,7 +28,7 @@ use Rattle.arena_lint.specs.Rooms.{ListHasStmts}
 use Rattle.arena_lint.specs.Spending.{Takes}
 use Rattle.arena_lint.specs.Steps.{Finds, Halfway, Walking, IsNotEmpty}
 use Rattle.arena_lint.proofs.SpendingLemmas.{takes_then, takes_more, takes_exhausted}
-use Rattle.arena_lint.specs.Stopping.{after_stmt, after_stmts, StopsAt, StopsIn, Goes}
+use Rattle.arena_lint.specs.Stopping.{Does, DoesAll, StopsAt, StopsIn, Goes}
 use Rattle.arena_lint.proofs.StatementLemmas.{line_within, stands_still, same_list}
 use Rattle.arena_lint.proofs.StoppingLemmas.{goes_from, goes_next, goes_short, goes_all}
 
@@ -137,8 +137,8 @@ module _ {F : Type 0} (taking : Taking F) {old now : View} {k l : Known} {first 
 
       -- It is stopped among all of them.
       pub walking_stops : {e : AllocError} (ss : Stmts) → StmtsAt ss old.memory (vec_list node_item old.memory v)
-          → ((s : Stmt) → StmtAt s now.memory n → Goes (after_stmt s) (StopsAt s) now new l j (Some e))
-          → Goes (after_stmts ss) (StopsIn ss) old new k j (Some e)
+          → ((s : Stmt) → StmtAt s now.memory n → Goes (Does s) (StopsAt s) now new l j (Some e))
+          → Goes (DoesAll ss) (StopsIn ss) old new k j (Some e)
       walking_stops ss at goes =
           let one = line ss at in
           goes_short one.is (walking.behind ss at).goes (goes one.stmt (stands one.stmt one.stands))
@@ -147,7 +147,7 @@ module _ {F : Type 0} (taking : Taking F) {old now : View} {k l : Known} {first 
       pub walking_next : {after : F} → Moves now.memory new.memory l j
           → ((s : Stmt) → StmtAt s now.memory n → Finds taking now.memory new.memory l j before after (Ok tt) (walk_stmt s))
           → ((s : Stmt) → StmtAt s now.memory n → Takes (weight s) now new l j None)
-          → ((s : Stmt) → StmtAt s now.memory n → Goes (after_stmt s) (StopsAt s) now new l j None)
+          → ((s : Stmt) → StmtAt s now.memory n → Goes (Does s) (StopsAt s) now new l j None)
           → Walking taking old new k j first after (vec_list node_item old.memory v) (i + 1)
       walking_next moves finds takes goes = record {
         moves = moves_then walking.moves moves;
@@ -175,5 +175,5 @@ module _ {F : Type 0} (taking : Taking F) {old now : View} {k l : Known} {first 
     pub walked_takes : Takes (weights ss) old now k l None
     walked_takes = let behind = walking.behind ss at in takes_more (weights ss) (omega (arith, behind.all)) behind.takes
 
-    pub walked_goes : Goes (after_stmts ss) (StopsIn ss) old now k l None
+    pub walked_goes : Goes (DoesAll ss) (StopsIn ss) old now k l None
     walked_goes = goes_all all_behind (walking.behind ss at).goes

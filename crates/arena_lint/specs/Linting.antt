@@ -3,9 +3,11 @@ use Rattle.std.specs.Prelude.{◌≡◌, ℕ, ◌+◌, ◌*◌, ◌≤◌, ◌�
 use Rattle.arena_chunks.specs.Source.{View}
 use Rattle.arena_chunks.specs.Asking.{AsksWithin, IsFull}
 use Rattle.arena_items.specs.Costs.{used}
-use Rattle.arena_items.specs.Denied.{Layouts, IsDenied}
+use Rattle.arena_chunks.specs.Answers.Answer.{Refused as NotPlaced}
+use Rattle.arena_items.specs.Denied.{IsDenied}
 use Rattle.arena_rules.specs.Asking.{IsStarvedWithin}
-use Rattle.arena_symbols.specs.Asks.{NamesAsk}
+use Rattle.arena_symbols.specs.Named.{AreNewNames}
+use Rattle.arena_symbols.specs.declared.names.Names.{Names as Known}
 use Rattle.arena_tree.specs.Layouts.{AskedFor}
 use Rattle.arena_tree.specs.Parsing.{IsProgramText, parse_bytes}
 use Rattle.arena_tree.specs.Spending.{KeepsKind}
@@ -18,37 +20,52 @@ use Rattle.lint_reports.specs.Taking.{Taking}
 use Rattle.lint_reports.specs.Reports.{Reports, said}
 use Rattle.lint_reports.specs.declared.report.FileReport.{FileReport}
 use Rattle.lint_reports.specs.declared.report.FileReport.TheVariants.{Checked, Syntax, TooDeep, NumberTooBig, Full, Refused, OutOfMemory}
-use Rattle.arena_lint.specs.Stopping.{nothing, StopsIn}
+use Rattle.arena_lint.specs.Stopping.{DoesAll, StopsIn}
 
 -- the most bytes of the arena that the report of a text takes
 abbrev pub lint_bytes : ℕ → ℕ
 lint_bytes length = 4096 * (length + 1)
-
--- what the report of a text asks for: what its tree asks for, and for its names blocks of at most eight parts for each
--- byte and twenty
-abbrev pub LintsAsk : List ℕ → Layouts
-LintsAsk bytes size align = AskedFor bytes size align ⊎ NamesAsk (8 * length bytes + 20) size align
 
 -- A block that the text's tree asks for has no place, and no more is in use than a tree takes.
 pub record StopsInTree (bytes : List ℕ) (old new : View) : Type 0 where
   pub denied : IsDenied (AskedFor bytes) new
   pub takes : used new ≤ used old + parse_bytes (length bytes)
 
--- A walk over the statements of its tree, from no names, is stopped at a block that it asks for next.
-pub record StopsInWalk (bytes : List ℕ) (new : View) : Type 0 where
-  pub trees : Stmts
+-- The text's tree is placed.
+pub record PlacesTree (bytes : List ℕ) (trees : Stmts) (old new : View) : Type 0 where
   pub tree : TreeOf bytes (Ok trees)
-  pub stops : StopsIn trees nothing new
+  pub takes : used new ≤ used old + parse_bytes (length bytes)
+
+-- Its tree is placed, and a walk over the statements, from no names, has the blocks that it asks for.
+pub record WalksOver (bytes : List ℕ) (old new : View) : Type 0 where
+  pub trees : Stmts
+  pub mid : View
+  pub tree : PlacesTree bytes trees old mid
+  pub first : Known
+  pub last : Known
+  pub none : AreNewNames first
+  pub did : DoesAll trees mid first new last
+
+-- Its tree is placed, and a walk over the statements, from no names, is stopped at the block that it asks for next.
+pub record StopsInWalk (bytes : List ℕ) (old new : View) : Type 0 where
+  pub trees : Stmts
+  pub mid : View
+  pub tree : PlacesTree bytes trees old mid
+  pub first : Known
+  pub none : AreNewNames first
+  pub refusals : ℕ
+  pub stops : StopsIn trees mid first new (NotPlaced refusals)
 
 -- A text has its own report, on an arena of which nothing was used. Only the report of a program may say nothing of the
--- text: where a block that it asks for has no place, in an arena that doesn't grow and has fewer bytes than it may
--- take, or in one that grows and was starved; or where memory runs out.
+-- text: where the arena doesn't place the block that it asks for next, in an arena that doesn't grow and has fewer bytes
+-- than it may take, or in one that grows and was starved; or where memory runs out.
 pub record Lints (bytes : List ℕ) (old new : View) (report : FileReport) : Type 0 where
   pub reports : Reports bytes report
   pub stopped : IfNone (said report) (IsProgramText bytes)
   pub most : used new ≤ lint_bytes (length bytes)
   pub asks : AsksWithin (used old + lint_bytes (length bytes)) old new
-  pub denied : (report ≡ Full) ⊎ (report ≡ Refused) → StopsInTree bytes old new ⊎ StopsInWalk bytes new
+  pub denied : (report ≡ Full) ⊎ (report ≡ Refused) → StopsInTree bytes old new ⊎ StopsInWalk bytes old new
+  pub walked : (findings : List Finding) → report ≡ Checked findings → WalksOver bytes old new
   pub full : report ≡ Full → IsFull (lint_bytes (length bytes)) old
   pub refused : report ≡ Refused
       → IsStarvedWithin (lint_bytes (length bytes)) old.memory.state new.memory.state old.source new.source

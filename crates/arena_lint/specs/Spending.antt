@@ -4,10 +4,8 @@ use Rattle.arena_chunks.specs.Memory.{Memory}
 use Rattle.arena_chunks.specs.Source.{View}
 use Rattle.arena_chunks.specs.Asking.{AsksWithin, IsFull}
 use Rattle.arena_items.specs.Costs.{used}
-use Rattle.arena_items.specs.Denied.{Layouts, IsDenied}
 use Rattle.arena_items.specs.declared.room.AllocError.{AllocError}
 use Rattle.arena_items.specs.declared.room.AllocError.TheVariants.{AllocErr, CapacityOverflow, OutOfMemory}
-use Rattle.arena_symbols.specs.Asks.{NamesAsk}
 use Rattle.arena_symbols.specs.Interner.{most_texts}
 use Rattle.arena_symbols.specs.Names.{names_in}
 use Rattle.arena_symbols.specs.Scoping.{pair_count}
@@ -21,14 +19,13 @@ abbrev pub walk_bytes : ℕ → ℕ
 walk_bytes weight = 1536 * weight
 
 -- Calls that may bring `bytes` into use, less what is saved afterwards, and more by what was saved before. They ask for
--- no more than that takes. A block that is refused has one of these layouts and no place: an arena that grows was
--- starved, and any other has fewer bytes. The calls never run out of numbers.
-pub record Spends (layouts : Layouts) (bytes before after : ℕ) (old new : View) (error : Option AllocError) : Type 0 where
+-- no more than that takes. If one is refused, an arena that grows was starved, and any other has fewer bytes. The calls
+-- never run out of numbers.
+pub record Spends (bytes before after : ℕ) (old new : View) (error : Option AllocError) : Type 0 where
   pub takes : used new + after ≤ used old + (bytes + before)
   pub asks : AsksWithin (used old + (bytes + before)) old new
   pub kind : KeepsKind old.memory new.memory
   pub fits : error ≢ Some CapacityOverflow
-  pub denied : (k : ℕ) → error ≡ Some (AllocErr k) → IsDenied layouts new
   pub starved : old.memory.state.is_growing ≡ true → (k : ℕ) → error ≡ Some (AllocErr k) → IsStarvedBehind old new
   pub full : old.memory.state.is_growing ≡ false → (k : ℕ) → error ≡ Some (AllocErr k) → IsFull (used old + (bytes + before)) old
 
@@ -37,16 +34,12 @@ abbrev pub numbers_in : Memory → Known → ℕ
 numbers_in m k =
     length (names_in m k.symbols) + (pair_count (scopes_in entry_item m k.scopes) + length (scopes_in entry_item m k.scopes))
 
--- what a walk asks for, by that count
-abbrev pub walk_asks : ℕ → Layouts
-walk_asks count = NamesAsk (4 * count + 16)
-
 -- A walk over statements adds at most twice their weight to the count. If there may be that many, it spends what they
 -- take.
 pub record Takes (weight : ℕ) (old new : View) (k l : Known) (error : Option AllocError) : Type 0 where
   pub numbers : error ≡ None → numbers_in new.memory l ≤ numbers_in old.memory k + 2 * weight
   pub spends : numbers_in old.memory k + 2 * weight ≤ most_texts
-      → Spends (walk_asks (numbers_in old.memory k + 2 * weight)) (walk_bytes weight) (all_credit k) (all_credit l) old new error
+      → Spends (walk_bytes weight) (all_credit k) (all_credit l) old new error
 
 -- an error, if there is one, is lack of memory alone
 abbrev pub IsExhausted : Option AllocError → Type 0

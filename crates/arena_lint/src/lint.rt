@@ -1,5 +1,5 @@
 // The report of one text.
-ghost use Rattle.std.specs.Prelude.{◌≡◌, ℕ, ◌+◌, ◌*◌, ◌^◌, ◌≤◌, [], length, Err, IfOk, IfErr, OnOk};
+ghost use Rattle.std.specs.Prelude.{◌≡◌, ◌+◌, ◌*◌, ◌^◌, ◌≤◌, [], length, IfOk, IfErr, OnOk};
 ghost use Rattle.arena_items.specs.Costs.{used};
 ghost use Rattle.arena_tree.specs.Given.{Means};
 ghost use Rattle.arena_tree.specs.Spending.{error_of};
@@ -10,8 +10,8 @@ ghost use Rattle.tree_rules.specs.Weights.{weights};
 ghost use Rattle.arena_lint.specs.All.{IsTextOf};
 ghost use Rattle.arena_lint.specs.Linting.{Lints, Checks, no_place, unparsed_by};
 ghost use Rattle.arena_lint.specs.Rooms.{IsLight};
-ghost use Rattle.arena_lint.specs.Spending.{Spends, walk_asks, walk_bytes};
-ghost use Rattle.arena_lint.specs.Stopping.{nothing, StopsIn};
+ghost use Rattle.arena_lint.specs.Spending.{Spends, walk_bytes};
+ghost use Rattle.arena_lint.specs.Stopping.{WalksFrom};
 
 use crate::walk::walk;
 use arena_chunks::{Allocator, ChunkSource};
@@ -58,9 +58,8 @@ fn give_findings<C: ChunkSource, F: TakesFindings>(
     ensures gains { (trees : Stmts) → Means a.old.memory tree trees
         → OnOk result (F.taking.gains found.old found.new (findings_of trees)) }
     ensures spends { (trees : Stmts) → Means a.old.memory tree trees
-        → Spends (walk_asks (1 + 2 * weights trees)) (walk_bytes (weights trees)) 0 0 a.old a.new (error_of result) }
-    ensures stops { (trees : Stmts) → Means a.old.memory tree trees → (k : ℕ) → result ≡ Err (AllocError.AllocErr k)
-        → StopsIn trees nothing a.new }
+        → Spends (walk_bytes (weights trees)) 0 0 a.old a.new (error_of result) }
+    ensures asks { (trees : Stmts) → Means a.old.memory tree trees → WalksFrom trees a.old a.new (error_of result) }
 {
     let room = a.used_bytes();
     let mut known = Names::new_in();

@@ -13,8 +13,7 @@ ghost use Rattle.tree_rules.specs.Weights.{weight, weights};
 ghost use Rattle.arena_lint.specs.Knowing.{Knows, found_of};
 ghost use Rattle.arena_lint.specs.Rooms.{ListHasExprs, AreNamed, HasStmt, ListHasStmts, stmt_names};
 ghost use Rattle.arena_lint.specs.Spending.{Takes, IsExhausted};
-ghost use Rattle.arena_lint.specs.Stopping.{entered, ended, named, after_stmt, after_stmts, StopsAtName, StopsAtBlock, StopsAt, StopsIn, Goes};
-ghost use Rattle.arena_symbols.specs.Serving.{state_in};
+ghost use Rattle.arena_lint.specs.Stopping.{DoesName, BeginsBlock, EndsBlock, Does, DoesAll, StopsAtName, StopsAtBlock, StopsAt, StopsIn, Goes};
 ghost use Rattle.arena_lint.specs.Steps.{Finds, Enters, IsNotEmpty};
 
 use crate::names::{Known, all_names};
@@ -49,7 +48,7 @@ fn define_name<C: ChunkSource>(
         → IfOk result (λ found. Knows a.new.memory known.new (defined name.now sets).known
         × ((defined name.now sets).findings ≡ found_of found name.now)) }
     ensures takes { Takes (1 + length name.now) a.old a.new known.old known.new (error_of result) }
-    ensures goes { Goes (named name.now) (StopsAtName name.now) a.old a.new known.old known.new (error_of result) }
+    ensures goes { Goes (DoesName name.now) (StopsAtName name.now) a.old a.new known.old known.new (error_of result) }
 {
     let id = known.symbols.intern(a, name)?;
     let is_seen = known.scopes.lookup(a, id).is_some();
@@ -103,7 +102,7 @@ fn define<C: ChunkSource, F: TakesFindings>(
     ensures finds { Finds F.taking a.old.memory a.new.memory known.old known.new found.old found.new result
         (defined (text_bytes a.old.memory text)) }
     ensures takes { Takes (1 + length (text_bytes a.old.memory text)) a.old a.new known.old known.new (error_of result) }
-    ensures goes { Goes (named (text_bytes a.old.memory text)) (StopsAtName (text_bytes a.old.memory text)) a.old a.new
+    ensures goes { Goes (DoesName (text_bytes a.old.memory text)) (StopsAtName (text_bytes a.old.memory text)) a.old a.new
         known.old known.new (error_of result) }
 {
     let name = match Bytes::of(alloc, a.read(text.block)) {
@@ -163,7 +162,7 @@ fn let_line<C: ChunkSource, F: TakesFindings>(
     ensures takes { (s : Stmt) → StmtAt s a.old.memory node
         → Takes (weight s) a.old a.new known.old known.new (error_of result) }
     ensures goes { (s : Stmt) → StmtAt s a.old.memory node
-        → Goes (after_stmt s) (StopsAt s) a.old a.new known.old known.new (error_of result) }
+        → Goes (Does s) (StopsAt s) a.old a.new known.old known.new (error_of result) }
 {
     use_names(alloc, a, known, node, room, found)?;
     define(alloc, a, known, node.text, found)
@@ -183,7 +182,7 @@ fn enter_block<C: ChunkSource>(
     ensures tree { IfOk result (λ list. ListHasStmts a.new.memory list _room (all_blocks a.new.memory known.new)) }
     ensures enters { IfOk result (Enters a.old.memory a.new.memory known.old known.new node) }
     ensures takes { Takes 1 a.old a.new known.old known.new (error_of result) }
-    ensures goes { Goes entered StopsAtBlock a.old a.new known.old known.new (error_of result) }
+    ensures goes { Goes BeginsBlock StopsAtBlock a.old a.new known.old known.new (error_of result) }
 {
     known.scopes.enter(a)?;
     Ok(kids(a, node))
@@ -196,7 +195,7 @@ fn leave_block<C: ChunkSource>(a: &mut Allocator<C>, known: &mut Known)
     ensures leaves { (names : NameSet) (sets : List NameSet) → Knows a.old.memory known.old (names ∷ sets)
         → IsNotEmpty sets → Knows a.new.memory known.new sets }
     ensures takes { Takes 0 a.old a.new known.old known.new None }
-    ensures goes { state_in a.new.memory known.new ≡ ended (state_in a.old.memory known.old) }
+    ensures goes { EndsBlock a.old known.old a.new known.new }
 {
     known.scopes.leave(a);
 }
@@ -235,7 +234,7 @@ fn walk_stmt<C: ChunkSource, F: TakesFindings>(
     ensures takes { (s : Stmt) → StmtAt s a.old.memory node
         → Takes (weight s) a.old a.new known.old known.new (error_of result) }
     ensures goes { (s : Stmt) → StmtAt s a.old.memory node
-        → Goes (after_stmt s) (StopsAt s) a.old a.new known.old known.new (error_of result) }
+        → Goes (Does s) (StopsAt s) a.old a.new known.old known.new (error_of result) }
 {
     match node.kind {
         Kind::Let => let_line(alloc, a, known, node, room, found),
@@ -266,7 +265,7 @@ pub(crate) fn walk<C: ChunkSource, F: TakesFindings>(
     ensures takes { (ss : Stmts) → StmtsAt ss a.old.memory (vec_list node_item a.old.memory list)
         → Takes (weights ss) a.old a.new known.old known.new (error_of result) }
     ensures goes { (ss : Stmts) → StmtsAt ss a.old.memory (vec_list node_item a.old.memory list)
-        → Goes (after_stmts ss) (StopsIn ss) a.old a.new known.old known.new (error_of result) }
+        → Goes (DoesAll ss) (StopsIn ss) a.old a.new known.old known.new (error_of result) }
 {
     'stmts: for i in 0..list.len() {
         let node = stmt(a, known, list, i, room);

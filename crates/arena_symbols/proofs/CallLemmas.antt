@@ -1,12 +1,14 @@
 -- Calls on the names of a program.
-use Rattle.std.proofs.Common.{nat_le, le-leb, ◌≡◌, ℕ, ◌^◌, ◌-◌, ◌<◌, List, [], ◌∷◌, ◌++◌, length, get_or, take, refl, ap, ◌∙◌, arith, inl, inr, Some, Ok, Err, Bool, append_assoc, ◌+◌}
+use Rattle.std.proofs.Common.{nat_le, le-leb, ◌≡◌, ℕ, ◌^◌, ◌-◌, ◌<◌, List, [], ◌∷◌, ◌++◌, length, get_or, take, refl, ap, ◌∙◌, arith, inl, inr, ◌≢◌, Some, Ok, Err, Bool, append_assoc, ◌+◌}
 use Rattle.std.specs.Prelude.{◌↔◌, ◌⊎◌, Result, IfOk, IfErr, OnOk, OnErr}
 use Rattle.std.specs.Borrow.{Bor}
 use Rattle.std.proofs.lemmas.Bool.Decides.{nat_tests}
 use Rattle.std.proofs.lemmas.List.{take_more}
 use Rattle.std.proofs.lemmas.Option.{slice_get-get_or}
+use Rattle.arena_chunks.specs.Answers.Answer.{Exhausted}
 use Rattle.arena_chunks.specs.Source.{View}
 use Rattle.arena_chunks.proofs.Layers.{frame_reflexive}
+use Rattle.arena_items.specs.Asks.{refusal}
 use Rattle.arena_items.specs.Costs.{Costs}
 use Rattle.arena_items.specs.declared.room.AllocError.{AllocError}
 use Rattle.arena_items.specs.declared.room.AllocError.TheVariants.{AllocErr, CapacityOverflow, OutOfMemory}
@@ -16,7 +18,7 @@ use Rattle.arena_symbols.specs.Interning.{Interns}
 use Rattle.arena_symbols.specs.Named.{AreNames, Moves, all_blocks, all_credit}
 use Rattle.arena_symbols.specs.Names.{names_credit}
 use Rattle.arena_symbols.specs.Paying.{Pays, far_up}
-use Rattle.arena_symbols.specs.Serving.{state_in, IsCallDenied, Serves, Ran, Stops}
+use Rattle.arena_symbols.specs.Serving.{state_in, CallTakes, IsCallDenied, Serves, Ran, Stops}
 use Rattle.arena_symbols.specs.TableCalls.{Enters, Leaves, Defines}
 use Rattle.arena_symbols.specs.Tables.{entry_item, scopes_in, table_credit}
 use Rattle.arena_symbols.specs.declared.calls.Call.{Call}
@@ -27,7 +29,7 @@ use Rattle.arena_symbols.specs.declared.scopes.Scopes.{Scopes}
 use Rattle.arena_symbols.specs.declared.symbols.Symbols.{Symbols}
 use Rattle.arena_symbols.specs.declared.names.Names.{Names}
 use Rattle.arena_symbols.proofs.NamedLemmas.{scopes_moved, texts_moved, moves_then}
-use Rattle.arena_symbols.proofs.PayLemmas.{told, told_err, pays_nothing, pays_places, pays_more, pays_told}
+use Rattle.arena_symbols.proofs.PayLemmas.{told, pays_nothing, pays_places, pays_more, pays_told}
 
 -- ---- Replies
 
@@ -41,18 +43,15 @@ ok_reply reply = Ok reply
 pub serves_read : (old : View) (n : Names) (call : Call) (result : Result Reply AllocError) → AreNames old.memory n
     → IfOk result (λ reply. reply ≡ answer (state_in old.memory n) call) → after (state_in old.memory n) call ≡ state_in old.memory n
     → (IsFull (state_in old.memory n) call → ⊥) → OnErr result ((result ≡ Err OutOfMemory) × Copies (state_in old.memory n) call)
-    → Serves old old n n call result
-serves_read old n call (Ok reply) held is same never copies =
-    let denied : (k : ℕ) → ok_reply reply ≡ Err (AllocErr k) → IsCallDenied old old n n call = λ k no. absurd (cc) in
+    → CallTakes old old n n call → IsCallDenied old old n n call Exhausted → Serves old old n n call result
+serves_read old n call (Ok reply) held is same never copies took denied =
     let pays = pays_nothing far_up (bytes_for call) (all_credit n) old (Ok reply) (λ k no. cc) in
-    grind (arith, held, is, same, never, denied, frame_reflexive old.memory (all_blocks old.memory n), pays)
-serves_read old n call (Err OutOfMemory) held is same never copies =
-    let denied : (k : ℕ) → (◌≡◌ {A = Result Reply AllocError} (Err OutOfMemory) (Err (AllocErr k))) → IsCallDenied old old n n call =
-    λ k no. absurd (cc) in
+    grind (arith, held, is, same, never, took, frame_reflexive old.memory (all_blocks old.memory n), pays)
+serves_read old n call (Err OutOfMemory) held is same never copies took denied =
     let pays = pays_nothing {X = Reply} far_up (bytes_for call) (all_credit n) old (Err OutOfMemory) (λ k no. cc) in
     grind (arith, held, same, never, copies, denied, frame_reflexive old.memory (all_blocks old.memory n), pays)
-serves_read old n call (Err (AllocErr k)) held is same never copies = absurd (let no = copies.0 in cc)
-serves_read old n call (Err CapacityOverflow) held is same never copies = absurd (let no = copies.0 in cc)
+serves_read old n call (Err (AllocErr k)) held is same never copies took denied = absurd (let no = copies.0 in cc)
+serves_read old n call (Err CapacityOverflow) held is same never copies took denied = absurd (let no = copies.0 in cc)
 
 -- What a call that adds may be refused with.
 may_answer : {X : Type 0} (s : State) (call : Call) (result : Result X AllocError) → OnErr result (Adds s call)
@@ -66,24 +65,26 @@ module _ {X : Type 0} {old new : View} {n m : Names} {call : Call} where
       → OnOk result (state_in new.memory m ≡ after (state_in old.memory n) call)
       → OnErr result (state_in new.memory m ≡ state_in old.memory n)
       → OnErr result (Adds (state_in old.memory n) call) → ((result ≡ Err CapacityOverflow) ↔ IsFull (state_in old.memory n) call)
-      → ((k : ℕ) → result ≡ Err (AllocErr k) → IsCallDenied old new n m call)
+      → OnOk result (CallTakes old new n m call)
+      → IfErr result (λ e. e ≢ CapacityOverflow → IsCallDenied old new n m call (refusal e))
       → ((Changes (state_in old.memory n) call → ⊥) → (new ≡ old) × (m ≡ n))
       → Pays far_up (bytes_for call) (all_credit n) (all_credit m) old new result → Serves old new n m call (told f result)
-  serves_told f result moved says goes stays adds full denied still pays =
-      whole result moved says goes stays full (λ k is. denied k (told_err f result is)) still (may_answer (state_in old.memory n) call result adds full.0) (pays_told f result pays)
+  serves_told f result moved says goes stays adds full took denied still pays =
+      whole result moved says goes stays full took denied still (may_answer (state_in old.memory n) call result adds full.0) (pays_told f result pays)
     where
       whole : (result : Result X AllocError) → Moves old.memory new.memory n m
           → IfOk result (λ x. f x ≡ answer (state_in old.memory n) call)
           → OnOk result (state_in new.memory m ≡ after (state_in old.memory n) call)
           → OnErr result (state_in new.memory m ≡ state_in old.memory n)
           → ((result ≡ Err CapacityOverflow) ↔ IsFull (state_in old.memory n) call)
-          → ((k : ℕ) → told f result ≡ Err (AllocErr k) → IsCallDenied old new n m call)
+          → OnOk result (CallTakes old new n m call)
+          → IfErr result (λ e. e ≢ CapacityOverflow → IsCallDenied old new n m call (refusal e))
           → ((Changes (state_in old.memory n) call → ⊥) → (new ≡ old) × (m ≡ n))
           → IfErr result (MayAnswer (state_in old.memory n) call)
           → Pays far_up (bytes_for call) (all_credit n) (all_credit m) old new (told f result)
           → Serves old new n m call (told f result)
-      whole (Ok x) moved says goes stays full denied still cause pays = grind (arith, moved, says, goes, full, denied, still, pays)
-      whole (Err e) moved says goes stays full denied still cause pays = grind (arith, moved, stays, full, denied, still, cause, pays)
+      whole (Ok x) moved says goes stays full took denied still cause pays = grind (arith, moved, says, goes, full, took, still, pays)
+      whole (Err e) moved says goes stays full took denied still cause pays = grind (arith, moved, stays, full, denied, still, cause, pays)
 
 module _ {old new : View} {n : Names} (held : AreNames old.memory n) where
   pub serves_intern : (text : Bor (List ℕ)) {t : Symbols} {result : Result ℕ AllocError} → length text.now < 2 ^ 32
@@ -93,7 +94,7 @@ module _ {old new : View} {n : Names} (held : AreNames old.memory n) where
       let moved = texts_moved held interns in
       serves_told {call = Intern text} (λ id. Number (Some id)) result moved.0 (grind (arith, interns.number, interns.names))
       (grind (arith, interns.names, moved.1)) (grind (arith, interns.kept, moved.1)) interns.fresh
-      (grind (arith, short, interns.overflows)) interns.denied (λ none. grind (arith, interns.known none))
+      (grind (arith, short, interns.overflows)) interns.took interns.denied (λ none. grind (arith, interns.known none))
       (pays_more (table_credit n.scopes) (omega arith) (omega arith) (omega arith) (omega arith) interns.pays)
 
   pub serves_enter : {u : Scopes} {result : Result (Unit {0}) AllocError} → Enters entry_item old new n.scopes u result
@@ -101,7 +102,7 @@ module _ {old new : View} {n : Names} (held : AreNames old.memory n) where
   serves_enter {u = u} {result = result} enters =
       let moved = scopes_moved held u enters.held enters.frame in
       serves_told {call = Enter} (λ _. Done) result moved.0 (grind arith) (grind (arith, enters.scopes, moved.1))
-      (grind (arith, enters.kept, moved.1)) (grind arith) enters.overflows enters.denied (λ none. absurd (none tt))
+      (grind (arith, enters.kept, moved.1)) (grind arith) enters.overflows enters.took enters.denied (λ none. absurd (none tt))
       (pays_more (names_credit n.symbols) (omega arith) (omega arith) (omega arith) (omega arith) enters.pays)
 
   pub serves_define : {u : Scopes} {id value : ℕ} {result : Result Bool AllocError} → Defines entry_item old new n.scopes u id value result
@@ -109,7 +110,7 @@ module _ {old new : View} {n : Names} (held : AreNames old.memory n) where
   serves_define {u = u} {id = id} {value = value} {result = result} defines =
       let moved = scopes_moved held u defines.held defines.frame in
       serves_told {call = Define id value} (λ b. Said b) result moved.0 (grind (arith, defines.says))
-      (grind (arith, moved.1, defines.says, defines.scopes)) (grind (arith, defines.kept, moved.1)) defines.fresh defines.overflows defines.denied
+      (grind (arith, moved.1, defines.says, defines.scopes)) (grind (arith, defines.kept, moved.1)) defines.fresh defines.overflows defines.took defines.denied
       (λ none. grind (arith, none, defines.says, defines.fresh, defines.same))
       (pays_more (names_credit n.symbols) (omega arith) (omega arith) (omega arith) (omega arith) defines.pays)
 
@@ -120,7 +121,7 @@ module _ {old new : View} {n : Names} (held : AreNames old.memory n) where
       let outer = outer_is (scopes_in entry_item old.memory n.scopes) in
       let pays : Pays far_up 0 (all_credit n) (all_credit (record n { scopes = u })) old new (Ok (Said b)) =
       pays_places old new (Said b) leaves.places (omega (arith, leaves.credit)) in
-      grind (arith, nat_tests, outer, leaves.more, leaves.alone, leaves.left, moved.0, moved.1, pays)
+      grind (arith, nat_tests, outer, leaves.more, leaves.alone, leaves.left, moved.0, moved.1, leaves.places, pays)
 
 -- ---- One after another
 

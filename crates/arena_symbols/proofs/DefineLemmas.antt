@@ -1,27 +1,27 @@
 -- What `define` does, in each case.
 use Rattle.std.proofs.lemmas.Bool.Decides.{nat_tests}
-use Rattle.std.proofs.Common.{◌≡◌, ℕ, ◌+◌, ◌*◌, ◌^◌, ◌<◌, ◌≤◌, List, [], ◌∷◌, length, reverse, refl, sym, ap, subst, ◌∙◌, arith, Some, Option, Ok, Err, Bool, true, false, cond}
-use Rattle.std.specs.Prelude.{Result, OnOk, OnErr, is_some, if◌then◌else◌}
+use Rattle.std.proofs.Common.{◌≡◌, ℕ, ◌+◌, ◌*◌, ◌^◌, ◌<◌, ◌≤◌, List, [], ◌∷◌, length, reverse, refl, sym, ap, subst, ◌∙◌, ◌≢◌, arith, inl, inr, Some, Option, Ok, Err, Bool, true, false, cond}
+use Rattle.std.specs.Prelude.{Result, IfErr, OnOk, OnErr, is_some, if◌then◌else◌}
 use Rattle.std.specs.Int.{w32, to_le_bytes}
 use Rattle.std.proofs.lemmas.List.{length-map, length-reverse}
 use Rattle.arena_chunks.specs.Source.{View}
 use Rattle.arena_chunks.specs.Frame.{ArePairwiseApart}
 use Rattle.arena_chunks.proofs.Layers.{all_apart, pairwise_both, blocks_turned, apart_empty, frame_reflexive, frame_beside}
-use Rattle.arena_items.specs.Denied.{IsDenied}
+use Rattle.arena_items.specs.Asks.{refusal}
 use Rattle.arena_items.specs.declared.item.Item.{Ghosts}
 use Rattle.arena_items.specs.declared.room.AllocError.{AllocError}
-use Rattle.arena_items.specs.declared.room.AllocError.TheVariants.{AllocErr, CapacityOverflow}
+use Rattle.arena_items.specs.declared.room.AllocError.TheVariants.{CapacityOverflow}
 use Rattle.arena_hash.specs.Finite.{Finite, has, value_of}
 use Rattle.arena_hash.specs.Maps.{map_in}
 use Rattle.hash_ring.specs.declared.hasher.FxHasher.{FxHasher}
 use Rattle.arena_hash.specs.declared.map.HashMap.{HashMap}
 use Rattle.arena_vec.specs.Credit.{credit_of as list_credit}
 use Rattle.arena_vec.specs.declared.vec.Vec.{Vec}
-use Rattle.arena_symbols.specs.Asks.{OneMore}
+use Rattle.arena_symbols.specs.Asks.{TakesBoth, IsBothDenied}
 use Rattle.arena_symbols.specs.Listing.{CanList, Lists, place_item}
 use Rattle.arena_symbols.specs.Paying.{Pays, far_up}
 use Rattle.arena_symbols.specs.Scoping.{lookup, is_in_last, with_pair, scopes_of, stands_from, most_pairs}
-use Rattle.arena_symbols.specs.TableCalls.{IsPairDenied, Defines}
+use Rattle.arena_symbols.specs.TableCalls.{TakesPair, IsPairDenied, Defines}
 use Rattle.arena_symbols.specs.TableLaws.{table_of}
 use Rattle.arena_symbols.specs.Tables.{Entry, id_kind, pairs_of, newest, first_count, entries_in, recent_in, starts_in, scopes_in, table_blocks, IsTableOf, IsTableIn, table_credit}
 use Rattle.arena_symbols.specs.declared.scopes.Scopes.{Scopes}
@@ -55,14 +55,22 @@ module _ {item : Ghosts Entry} (old : View) (s : Scopes) (id value : ℕ) (held 
     in_last : {there : Bool} → stands_from hid s.start ≡ there → is_in_last scopes id ≡ there
     in_last stands = in_last_is held id hid fits (rw bytes at found) ∙ stands
 
+    abbrev not_put : Bool → Result Bool AllocError
+    not_put there = if there then Ok false else Err CapacityOverflow
+
+    not_asked : (there : Bool) → is_in_last scopes id ≡ there → OnOk (not_put there) (TakesPair item old old s s id)
+        × IfErr (not_put there) (λ e. e ≢ CapacityOverflow → IsPairDenied item old old s s id (refusal e))
+    not_asked true is = (inl (is, refl, refl), tt)
+    not_asked false is = (tt, λ no. absurd (no refl))
+
     -- Nothing is put: the id is there, or there are as many pairs as there can be.
     pub define_not : (there : Bool) → stands_from hid s.start ≡ there
         → (there ≡ false → most_pairs ≤ s.pairs.raw.len)
-        → Defines item old old s s id value (if there then Ok false else Err CapacityOverflow)
+        → Defines item old old s s id value (not_put there)
     define_not there stands full =
-        let result : Result Bool AllocError = if there then Ok false else Err CapacityOverflow in
-        let pays = pays_nothing far_up 512 (table_credit s) old result (λ k no. grind (arith, no)) in
-        grind (arith, in_last stands, full, counted_pairs item old.memory s, pays, frame_reflexive old.memory (table_blocks s))
+        let pays = pays_nothing far_up 512 (table_credit s) old (not_put there) (λ k no. grind (arith, no)) in
+        let asks = not_asked there (in_last stands) in
+        grind (arith, in_last stands, full, counted_pairs item old.memory s, asks, pays, frame_reflexive old.memory (table_blocks s))
 
     module _ (stands : stands_from hid s.start ≡ false) (size : (item.SIZE ≡ 16) × (item.ALIGN ≡ 4))
         (few : s.pairs.raw.len < most_pairs) (new : View) (n : HashMap ℕ ℕ FxHasher) (v : Vec Entry) where
@@ -123,6 +131,17 @@ module _ {item : Ghosts Entry} (old : View) (s : Scopes) (id value : ℕ) (held 
             (λ i. scopes_of (pairs_of (lists.kept.1 i)) (starts_are lists i)),
           )
 
+      took : (result : Result ℕ AllocError) → Puts result → OnOk (told (λ _. true) result) (TakesPair item old new s now id)
+      took (Ok at) lists =
+          inr (in_last stands, refl, subst (λ (b : Bool). TakesBoth item id_kind b old new s.pairs v s.newest n) is_there lists.took)
+      took (Err e) lists = tt
+
+      denied : (result : Result ℕ AllocError) → Puts result
+          → IfErr (told (λ _. true) result) (λ e. e ≢ CapacityOverflow → IsPairDenied item old new s now id (refusal e))
+      denied (Ok at) lists = tt
+      denied (Err e) lists =
+          λ fits. subst (λ (b : Bool). IsBothDenied item id_kind b old new s.pairs v s.newest (refusal e)) is_there lists.denied
+
       -- The pair is put, or refused.
       pub defines : (result : Result ℕ AllocError) → Puts result → Defines item old new s now id value (told (λ _. true) result)
       defines result lists =
@@ -130,6 +149,16 @@ module _ {item : Ghosts Entry} (old : View) (s : Scopes) (id value : ℕ) (held 
           (pays_more (list_credit 4 s.starts.raw.len s.starts.raw.cap) (omega arith) (omega arith) (omega arith) (omega arith)
           (rw size.0 at lists.pays)) in
           let frame = frame_beside old.memory new.memory _ _ (s.starts.raw.block ∷ []) lists.frame in
-          let denied : (k : ℕ) → told (λ _. true) result ≡ Err (AllocErr k) → IsPairDenied item old new s now id = λ k is.
-          subst (λ (b : Bool). IsDenied (OneMore item id_kind b v n) new) is_there (lists.denied k (told_err (λ _. true) result is)) in
-          grind (arith, in_last stands, after result lists, lists.fits, few, counted_pairs item old.memory s, denied, pays, frame)
+          let full : told (λ _. true) result ≡ Err CapacityOverflow → ⊥ = λ is. lists.fits (told_err (λ _. true) result is) in
+          grind (
+            arith,
+            in_last stands,
+            after result lists,
+            full,
+            few,
+            counted_pairs item old.memory s,
+            took result lists,
+            denied result lists,
+            pays,
+            frame,
+          )

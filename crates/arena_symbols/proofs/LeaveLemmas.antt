@@ -1,6 +1,6 @@
 -- The innermost map is ended.
 use Rattle.std.proofs.lemmas.Bool.Decides.{nat_tests}
-use Rattle.std.proofs.Common.{◌≡◌, ℕ, ◌-◌, ◌<◌, ◌≤◌, ◌∷◌, length, take, subst, arith, true, false}
+use Rattle.std.proofs.Common.{◌≡◌, ℕ, ◌-◌, ◌<◌, ◌≤◌, [], ◌∷◌, length, take, subst, ◌∙◌, arith, true, false}
 use Rattle.std.specs.Prelude.{◌==◌}
 use Rattle.std.proofs.lemmas.Bool.{eqb-false}
 use Rattle.std.proofs.lemmas.List.{length-take, take-map}
@@ -55,4 +55,7 @@ module _ {item : Ghosts Entry} (old : View) (s : Scopes) (v : Vec ℕ) (k : ℕ)
 
   -- They are removed too.
   pub left : (new : View) (t : Scopes) → Cuts item old new outer t s.start → Leaves item old new s t true
-  left new t cuts = grind (arith, nat_tests, credit_less, fewer, take-map, starts_are, depth_is, positive)
+  left new t cuts =
+      let blocks : table_blocks t ≡ table_blocks s =
+      cuts.blocks ∙ (λ i. s.newest.table.block ∷ s.pairs.raw.block ∷ cut.block i ∷ []) in
+      grind (arith, nat_tests, credit_less, fewer, take-map, starts_are, depth_is, positive, blocks)

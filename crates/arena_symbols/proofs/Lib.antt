@@ -1,6 +1,5 @@
 pub mod NumberLemmas
 pub mod BesideLemmas
-pub mod DeniedLemmas
 pub mod PayLemmas
 pub mod ListingLemmas
 pub mod InternLemmas

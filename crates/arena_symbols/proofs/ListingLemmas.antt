@@ -9,11 +9,11 @@ use Rattle.arena_chunks.specs.Frame.{AreBlocksApart, Frame, Stays}
 use Rattle.arena_store.specs.declared.block.Block.{Block}
 use Rattle.arena_chunks.proofs.Layers.{blocks_turned, frame_behind, frame_both, frame_keeps}
 use Rattle.arena_items.specs.Costs.{Costs, farthest}
-use Rattle.arena_items.specs.Denied.{IsDenied}
+use Rattle.arena_items.specs.Asks.{refusal}
 use Rattle.arena_items.specs.Layout.{IsItemLayout}
 use Rattle.arena_items.specs.declared.item.Item.{Ghosts}
 use Rattle.arena_items.specs.declared.room.AllocError.{AllocError}
-use Rattle.arena_items.specs.declared.room.AllocError.TheVariants.{AllocErr, CapacityOverflow}
+use Rattle.arena_items.specs.declared.room.AllocError.TheVariants.{CapacityOverflow}
 use Rattle.arena_items.proofs.Layers.{length-elements}
 use Rattle.arena_vec.specs.Changes.{Grows, Becomes}
 use Rattle.arena_vec.specs.Credit.{credit_of as list_credit}
@@ -29,12 +29,12 @@ use Rattle.hash_ring.specs.declared.hasher.FxHasher.{FxHasher}
 use Rattle.arena_hash.proofs.Layers.{map_stays}
 use Rattle.arena_hash.specs.declared.map.HashMap.{HashMap}
 use Rattle.arena_hash.specs.declared.map.Look.{Look}
-use Rattle.arena_symbols.specs.Asks.{LongerList, LargerMap, OneMore}
+use Rattle.arena_symbols.specs.Asks.{TakesList, TakesBoth, IsBothDenied}
 use Rattle.arena_symbols.specs.Listing.{CanList, Lists}
 use Rattle.arena_symbols.specs.Paying.{Pays, far_up}
+use Rattle.arena_symbols.proofs.AskLemmas.{list_taken, list_asked, map_taken, map_asked}
 use Rattle.arena_symbols.proofs.BesideLemmas.{vec_beside}
-use Rattle.arena_symbols.proofs.DeniedLemmas.{err_same, denied_more}
-use Rattle.arena_symbols.proofs.PayLemmas.{Paid, pays_as, pays_more, pays_told, pays_then, pays_push, denied_push, pays_insert, denied_insert, insert_fits, credit_less}
+use Rattle.arena_symbols.proofs.PayLemmas.{Paid, pays_as, pays_more, pays_told, pays_then, pays_push, pays_insert, insert_fits, credit_less}
 
 -- this many values, and their bytes, fit 32 bits
 pub fits_both : (n size : ℕ) → 4 ≤ size → n * (2 * size) ≤ 2 ^ 32 → (n < 2 ^ 32) × (n * size < 2 ^ 32)
@@ -73,9 +73,9 @@ module _ {K T : Type 0} (paid : Paid) {item : Ghosts T} (plain : IsItemLayout it
   pays_list result fits grows =
       pays_push paid item plain can.some can.small can.low old mid v w (list ++ value ∷ []) one can.list can.few many result fits grows
 
-  unplaced : (j : ℕ) → Pushes (Err (AllocErr j)) → IsDenied (LongerList item w) mid
-  unplaced j grows =
-      denied_push paid item plain can.some can.small can.low old mid v w (list ++ value ∷ []) one can.list can.few many j grows
+  -- whether the key is there
+  abbrev is_there : Bool
+  is_there = has (map_in k old.memory m) (content_in k.key old.memory key)
 
   -- The push is refused.
   pub unlisted : (e : AllocError) → (◌≡◌ {A = Result (Unit {0}) AllocError} (Err e) (Err CapacityOverflow) → ⊥) → Pushes (Err e)
@@ -85,12 +85,20 @@ module _ {K T : Type 0} (paid : Paid) {item : Ghosts T} (plain : IsItemLayout it
       mid (Err e) = pays_as (credit_of k m) (λ d is. cc) (omega arith) (omega arith) refl (omega arith) (pays_list (Err e) fits grows) in
       let frame = frame_behind old.memory mid.memory (v.raw.block ∷ []) (w.raw.block ∷ []) (m.table.block ∷ []) grows.frame in
       let same : vec_list item mid.memory w ≡ list = λ i. vec_list item (grows.err.1 i) (grows.err.0 i) in
-      let denied : (j : ℕ) → (◌≡◌ {A = Result ℕ AllocError} (Err e) (Err (AllocErr j)))
-      → IsDenied (OneMore item k (has (map_in k old.memory m) (content_in k.key old.memory key)) w m) mid = λ j is.
-      denied_more (λ s a long. inl long) (unplaced j (rw (err_same is) at grows)) in
+      let denied : IsBothDenied item k is_there old mid v w m (refusal e) =
+      inl (list_asked item can.some old mid v w (list ++ value ∷ []) can.list e (λ is. fits (ap Err is)) grows) in
       grind (arith, stays can grows.frame, grows.held, same, fits, pays, denied, frame)
 
   module _ (grows : Pushes (Ok tt)) (new : View) (n : HashMap K ℕ FxHasher) where
+    took_list : TakesList item old mid v w
+    took_list = list_taken item can.some old mid v w (list ++ value ∷ []) can.list tt grows
+
+    -- The key is there after the push if it was before.
+    there_still : has (map_in k mid.memory m) (content_in k.key mid.memory key) ≡ is_there
+    there_still =
+        let same = stays can grows.frame in
+        let content = ap (k.key.content key) (text can grows.frame).bytes in λ i. has (same.means i) (content i)
+
     -- A push, and then an insert, after which some of the credit may be lost.
     both : {after : ℕ} (result : Result (Option ℕ) AllocError)
         → Costs farthest (2 * unit_of k) (credit_of k m) (credit_of k n) mid new result → Puts k mid new m key v.raw.len is_value n result
@@ -114,7 +122,12 @@ module _ {K T : Type 0} (paid : Paid) {item : Ghosts T} (plain : IsItemLayout it
         pays_told (λ _. v.raw.len) (Ok before) (both {after = saved w + credit_of k n} (Ok before) costs puts (omega arith) tt) in
         let frame = frame_both _ _ _ _ _ _ _ grows.frame puts.frame in
         let apart = blocks_turned w.raw.block n.table.block vec.apart.0 in
-        grind (arith, puts.held, vec.held, apart, vec.list_is ∙ grows.list_is, map_is, len, pays, frame)
+        let took : TakesBoth item k is_there old new v w m n = record {
+          mid = mid;
+          list = took_list;
+          map = map_taken k is_value mid new m n key v.raw.len is_there there_still before puts;
+        } in
+        grind (arith, puts.held, vec.held, apart, vec.list_is ∙ grows.list_is, map_is, len, pays, took, frame)
 
     -- The insert is refused, and the list's end is cut off.
     pub cut_off : (u : Vec T) (e : AllocError)
@@ -131,12 +144,10 @@ module _ {K T : Type 0} (paid : Paid) {item : Ghosts T} (plain : IsItemLayout it
         let less = credit_less item.SIZE u.raw.len w.raw.len w.raw.cap u.raw.cap (omega (arith, len, more)) (omega (arith, cut.cap)) in
         let held : IsVecIn item new.memory u = rw puts.err.1 cut.held in
         let apart : AreBlocksApart n.table.block u.raw.block = rw (puts.err.0, cut.block) same.apart.0.0 in
-        let denied : (j : ℕ) → (◌≡◌ {A = Result ℕ AllocError} (Err e) (Err (AllocErr j)))
-        → IsDenied (OneMore item k (has (map_in k old.memory m) (content_in k.key old.memory key)) u n) new = λ j is.
-        let content = ap (k.key.content key) (text can grows.frame).bytes in
-        denied_more (λ s a larger. inr larger) (subst (λ (b : Bool). IsDenied (LargerMap k b n) new)
-        (λ i. has (same.means i) (content i)) (denied_insert k is_value mid new m n key v.raw.len j (rw (err_same is) at puts))) in
         let fits = insert_fits k is_value mid new m n key v.raw.len (Err e) can.few_keys puts in
+        let took : TakesList item old mid v u = rw cut.block took_list in
+        let denied : IsBothDenied item k is_there old new v u m (refusal e) =
+        inr (mid, took, map_asked k is_value mid new m n key v.raw.len is_there there_still e (λ is. fits (ap Err is)) puts) in
         let pays = pays_told {Y = ℕ} (λ _. 0) (Err e) (both {after = saved u + credit_of k n} (Err e) costs puts (omega (arith, less))
         (omega (arith, back, puts.costs.refused.1))) in
         let frame : Frame old.memory new.memory (m.table.block ∷ v.raw.block ∷ []) (n.table.block ∷ u.raw.block ∷ []) =

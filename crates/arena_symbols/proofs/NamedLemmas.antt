@@ -1,7 +1,7 @@
 -- An interner and a scoped table in one arena.
 use Rattle.std.proofs.lemmas.Bool.Decides.{nat_tests}
-use Rattle.std.proofs.Common.{◌≡◌, ℕ, List, [], ◌∷◌, ◌++◌, refl, sym, ap, ◌∙◌, inl, inr, Some, Ok, Err, Bool, true, false, ◌<◌, ◌≤◌, length, arith, None, ◌+◌, ◌-◌, ◌^◌}
-use Rattle.std.specs.Prelude.{if◌then◌else◌, not, Result, IfOk, ◌↔◌, ◌⊎◌}
+use Rattle.std.proofs.Common.{◌≡◌, ℕ, List, [], ◌∷◌, ◌++◌, refl, sym, ap, ◌∙◌, inl, inr, Some, Ok, Err, Bool, true, false, ◌≢◌, ◌<◌, ◌≤◌, length, arith, None, ◌+◌, ◌-◌, ◌^◌}
+use Rattle.std.specs.Prelude.{if◌then◌else◌, not, Result, IfOk, IfErr, OnOk, ◌↔◌, ◌⊎◌}
 use Rattle.std.proofs.lemmas.Result.{IfOk-weaker}
 use Rattle.arena_rules.proofs.AskingLemmas.{asks_more}
 use Rattle.arena_chunks.specs.Memory.{Memory}
@@ -9,18 +9,19 @@ use Rattle.arena_chunks.specs.Source.{View}
 use Rattle.arena_chunks.specs.Frame.{Frame, AreAllApart}
 use Rattle.arena_store.specs.declared.block.Block.{Block}
 use Rattle.arena_chunks.proofs.Layers.{all_apart, all_from_none, all_from_both, apart_both, frame_then, frame_weaken, frame_beside, frame_behind, frame_keeps_all}
+use Rattle.arena_items.specs.Asks.{refusal}
 use Rattle.arena_items.specs.Costs.{Costs}
 use Rattle.arena_items.specs.Room.{SamePlaces}
 use Rattle.arena_items.specs.declared.room.AllocError.{AllocError}
 use Rattle.arena_items.specs.declared.room.AllocError.TheVariants.{AllocErr, CapacityOverflow}
 use Rattle.arena_items.proofs.Layers.{stays_readable, stays_agree, stays_apart, costs_weaken, costs_ok, costs_then}
 use Rattle.arena_symbols.specs.Interner.{number_of, most_texts}
-use Rattle.arena_symbols.specs.Interning.{IsTextDenied, Interns}
-use Rattle.arena_symbols.specs.Named.{AreNames, Moves, Declares, Spends, DeclaresWithin, OwnScopeWithin, IsFullFor, all_credit, meaning}
+use Rattle.arena_symbols.specs.Interning.{Interns}
+use Rattle.arena_symbols.specs.Named.{AreNames, Moves, IsNumbered, TakesName, IsNameDenied, Declares, Spends, DeclaresWithin, OwnScopeWithin, IsFullFor, all_credit, meaning}
 use Rattle.arena_symbols.specs.Names.{names_in, own_blocks, names_footprint, names_credit}
 use Rattle.arena_symbols.specs.Scoping.{innermost, is_in_last, outer_of, with_pair, pair_count, most_scopes, most_pairs}
 use Rattle.arena_symbols.specs.Paying.{Pays, far_up}
-use Rattle.arena_symbols.specs.TableCalls.{IsPairDenied, Defines}
+use Rattle.arena_symbols.specs.TableCalls.{TakesPair, IsPairDenied, Defines}
 use Rattle.arena_symbols.specs.TableLaws.{table_readable, table_same, table_held_again}
 use Rattle.arena_symbols.specs.Tables.{entry_item, IsTableIn, scopes_in, table_blocks, table_credit}
 use Rattle.arena_symbols.specs.declared.scopes.Scopes.{Scopes}
@@ -84,9 +85,8 @@ unnamed {old = old} {mid = mid} {n = n} {t = t} {name = name} {e = e} held inter
     let moved = texts_moved held interns in
     let pays : Pays {X = Bool} (far_up - 2 ^ 61) (1536 + length name) (all_credit n) (all_credit (record n { symbols = t })) old mid
     (Err e) = pays_as (table_credit n.scopes) (λ d is. cc) (omega arith) (omega arith) (omega arith) (omega arith) interns.pays in
-    let denied : (k : ℕ) → (◌≡◌ {A = Result Bool AllocError} (Err e) (Err (AllocErr k))) → IsTextDenied old mid t name
-    ⊎ ((id : ℕ) × (number_of (names_in mid.memory t) name ≡ Some id) × IsPairDenied entry_item old mid n.scopes n.scopes id) =
-    λ k is. inl (interns.denied k (cc)) in
+    let denied : e ≢ CapacityOverflow → IsNameDenied old mid n (record n { symbols = t }) name (refusal e) =
+    λ fits. inl (interns.denied fits) in
     grind (arith, moved, interns.overflows, interns.kept, interns.fresh, denied, spent {n = n} {m = record n { symbols = t }} pays)
 
 -- A declaration that overflows at the pairs, after the name has its number.
@@ -94,6 +94,14 @@ overflows_at : {P : Type 0} {maps scopes : List (List (ℕ × ℕ))} {id : ℕ} 
     → number_of now name ≡ Some id → ((number_of texts name ≡ None) × (most_texts ≤ length texts) → ⊥)
     → (P ↔ ((is_in_last maps id ≡ false) × (most_pairs ≤ pair_count maps))) → P ↔ IsFullFor texts now scopes name
 overflows_at texts now name same number room full = grind (arith, nat_tests)
+
+-- What is asked for a name and then its pair.
+declared_asks : (old mid new : View) (n m : Names) {name : List ℕ} {id : ℕ} (result : Result Bool AllocError)
+    → IsNumbered old mid n m name id → OnOk result (TakesPair entry_item mid new n.scopes m.scopes id)
+    → IfErr result (λ e. e ≢ CapacityOverflow → IsPairDenied entry_item mid new n.scopes m.scopes id (refusal e))
+    → OnOk result (TakesName old new n m name) × IfErr result (λ e. e ≢ CapacityOverflow → IsNameDenied old new n m name (refusal e))
+declared_asks old mid new n m {id = id} (Ok b) numbered took denied = ((mid, id, numbered, took), tt)
+declared_asks old mid new n m {id = id} (Err e) numbered took denied = (tt, λ fits. inr (mid, id, numbered, denied fits))
 
 pub bound : {old mid new : View} {n : Names} {t : Symbols} {u : Scopes} {name : List ℕ} {id value : ℕ} (result : Result Bool AllocError)
     → AreNames old.memory n → Interns old mid n.symbols t name (Ok id) → Defines entry_item mid new n.scopes u id value result
@@ -120,12 +128,12 @@ bound {old = old} {mid = mid} {new = new} {n = n} {t = t} {u = u} {name = name} 
     × (scopes_in entry_item new.memory u ≡ (if b then with_pair scopes id value else scopes))) _ (λ b is. (id, number, is.0, is.1))
     (grind (arith, one.1, defines.says, defines.scopes)) in
     let moves = moves_then one.0 two.0 in
-    let denied : (k : ℕ) → result ≡ Err (AllocErr k) → IsTextDenied old new t name
-    ⊎ ((id : ℕ) × (number_of (names_in new.memory t) name ≡ Some id) × IsPairDenied entry_item old new n.scopes u id) =
-    λ k is. inr (id, number, rw one.1 at (defines.denied k is)) in
+    let numbered : IsNumbered old mid n (record { symbols = t; scopes = u }) name id =
+    record { took = interns.took; number = interns.number; same = one.1 } in
+    let asks = declared_asks old mid new n (record { symbols = t; scopes = u }) result numbered defines.took defines.denied in
     let spends : Spends (far_up - 2 ^ 61) (1536 + length name) old new n (record { symbols = t; scopes = u }) result =
     record { costs = costs; told = grind (arith, second.told, first.costs.asks.refusals) } in
-    grind (arith, moves, two.1, interns.names, put, one.1, defines.kept, overflows, denied, spends)
+    grind (arith, moves, two.1, interns.names, put, one.1, defines.kept, overflows, asks, spends)
 
 -- the outer maps after a pair was put
 outer_put : (scopes : List (List (ℕ × ℕ))) (id value : ℕ) → outer_of (with_pair scopes id value) ≡ outer_of scopes

@@ -14,7 +14,6 @@ use Rattle.arena_chunks.specs.BlockCalls.{PlacesBlock}
 use Rattle.arena_store.specs.declared.block.Block.{Block}
 use Rattle.arena_chunks.proofs.Layers.{asks_same}
 use Rattle.arena_items.specs.Costs.{used, Costs, Covers, farthest}
-use Rattle.arena_items.specs.Denied.{RoomFor, IsDenied}
 use Rattle.arena_items.specs.Layout.{IsItemLayout}
 use Rattle.arena_items.specs.LayoutLaws.{plain_1}
 use Rattle.arena_items.specs.Room.{capacity_after, MakesRoom, SamePlaces, TakesRoom, RoomAnswer}
@@ -24,7 +23,7 @@ use Rattle.arena_items.specs.declared.room.AllocError.{AllocError}
 use Rattle.arena_items.specs.declared.room.AllocError.TheVariants.{AllocErr, CapacityOverflow}
 use Rattle.arena_items.specs.declared.room.Growth.{Growth}
 use Rattle.arena_items.specs.declared.room.Growth.TheVariants.{Stays, GrowsTo, Overflows}
-use Rattle.arena_items.proofs.Layers.{zero_or_more, row_is_layout, costs_nothing, costs_then, room_costs, room_refused_as}
+use Rattle.arena_items.proofs.Layers.{zero_or_more, row_is_layout, costs_nothing, costs_then, room_costs}
 use Rattle.arena_vec.specs.Changes.{Grows}
 use Rattle.arena_vec.specs.Credit.{asked_by, credit_of as list_credit}
 use Rattle.arena_vec.specs.Growth.{amortised_growth}
@@ -34,13 +33,10 @@ use Rattle.arena_hash.specs.Accounts.{spare_of, credit_of}
 use Rattle.arena_hash.specs.Changes.{Puts}
 use Rattle.arena_hash.specs.Contents.{Kind, content_in}
 use Rattle.arena_hash.specs.Finite.{has}
-use Rattle.arena_hash.specs.Policy.{growth_for}
 use Rattle.arena_hash.specs.Maps.{map_in}
 use Rattle.arena_hash.specs.declared.map.HashMap.{HashMap}
 use Rattle.arena_chunks.specs.Asking.{IsCounted}
-use Rattle.arena_symbols.specs.Asks.{LongerList, LargerMap}
 use Rattle.arena_symbols.specs.Paying.{Pays}
-use Rattle.arena_symbols.proofs.DeniedLemmas.{block_denied, room_denied}
 
 -- A result with another value.
 abbrev pub told : {X Y : Type 0} → (X → Y) → Result X AllocError → Result Y AllocError
@@ -97,7 +93,7 @@ pays_then x growing still err first more =
     let costs = costs_then _ _ _ _ _ _ _ _ _ (Ok x) _ growing still refl first.costs more.costs in
     grind (arith, costs, err, more.told, first.costs.asks.refusals)
 
--- ---- What the arena refuses
+-- ---- Room
 
 -- A refusal of room is the arena's, and reports how many requests were refused.
 room_told : {X : Type 0} (size align : ℕ) (old new : View) (block : Block) (cap : ℕ) (f : X → Block) (k : ℕ) (growth : Growth)
@@ -163,16 +159,6 @@ module _ {T : Type 0} (paid : Paid) (item : Ghosts T) (plain : IsItemLayout item
       → IsTrue (is_layout (more * item.SIZE) item.ALIGN)
   row_layout more asked = grind (arith, nat_tests, mul-le-mul_left, row_is_layout, row_bytes)
 
-  denied_growth : {X : Type 0} (k : ℕ) (growth : Growth)
-      → asked_by item.SIZE growth + list_credit item.SIZE (v.raw.len + 1) (capacity_after growth v.raw.cap) ≤ before + 4 * item.SIZE
-      → Grows {X = X} item old new v growth list w (Err (AllocErr k)) → IsDenied (RoomFor item.SIZE item.ALIGN growth) new
-  denied_growth k Stays asked grows = absurd grows.made.0
-  denied_growth k Overflows asked grows = absurd (let no = grows.made.0 in cc)
-  denied_growth {X} k (GrowsTo more) asked grows =
-      block_denied old new new (more * item.SIZE) item.ALIGN k
-      (room_refused_as old new v.raw.block item.SIZE item.ALIGN v.raw.cap (λ (x : X). w.raw.block) more one held.place
-      (row_layout more asked) (AllocErr k) grows.err.1 grows.made) (record { state = refl; statistics = refl; source = refl })
-
   pays_growth : {X : Type 0} (growth : Growth) (result : Result X AllocError) → v.raw.cap ≤ capacity_after growth v.raw.cap
       → asked_by item.SIZE growth + list_credit item.SIZE (v.raw.len + 1) (capacity_after growth v.raw.cap) ≤ before + 4 * item.SIZE
       → (result ≡ Err CapacityOverflow → ⊥) → Grows item old new v growth list w result
@@ -194,17 +180,11 @@ module _ {T : Type 0} (paid : Paid) (item : Ghosts T) (plain : IsItemLayout item
       → Pays farthest (4 * item.SIZE + 7) before after old new result
   pays_push result fits grows = grind (arith, nat_tests, pays_growth)
 
-  -- If refused, the list is unchanged, and the block that it asks for has no place.
-  pub denied_push : {X : Type 0} (k : ℕ)
-      → Grows {X = X} item old new v (amortised_growth item.SIZE v.raw.cap (v.raw.len + 1)) list w (Err (AllocErr k))
-      → IsDenied (LongerList item w) new
-  denied_push k grows = grind (arith, nat_tests, denied_growth)
-
 -- ---- A pair in a map
 
 module _ {X K V S : Type 0} (k : Kind K V S) (tells : Option V → X → Type 0) (old new : View) (m w : HashMap K V S) (key : K) (value : V)
   where
-    -- What a map's law says of an insert, and of a refusal.
+    -- What a map's law says of an insert.
     pub pays_insert : (bytes : ℕ) (result : Result X AllocError)
         → Costs farthest bytes (credit_of k m) (credit_of k w) old new result → Puts k old new m key value tells w result
         → Pays farthest bytes (credit_of k m) (credit_of k w) old new result
@@ -212,12 +192,6 @@ module _ {X K V S : Type 0} (k : Kind K V S) (tells : Option V → X → Type 0)
         let told : (j : ℕ) → result ≡ Err (AllocErr j) → IsCounted j old new = λ j is.
         room_told _ _ old new m.table.block 0 (λ (x : X). w.table.block) j _ (rw is at puts.made) in
         grind (arith, costs, puts.costs.refused, told)
-
-    -- If refused, the map is unchanged, and the block that it asks for has no place.
-    pub denied_insert : (j : ℕ) → Puts {X = X} k old new m key value tells w (Err (AllocErr j))
-        → IsDenied (LargerMap k (has (map_in k old.memory m) (content_in k.key old.memory key)) w) new
-    denied_insert j puts = rw puts.err.0 (room_denied _ _ old new m.table.block (λ (x : X). w.table.block) j
-        (growth_for (has (map_in k old.memory m) (content_in k.key old.memory key)) m.table.slots m.len) puts.made)
 
     -- It fits if there are fewer pairs than a map can have.
     pub insert_fits : (result : Result X AllocError) → m.len < 2 ^ 32 - 1 → Puts k old new m key value tells w result

@@ -1,16 +1,16 @@
 -- A map that begins.
-use Rattle.std.proofs.Common.{◌≡◌, ℕ, ◌+◌, ◌-◌, ◌^◌, ◌<◌, ◌≤◌, [], ◌∷◌, ◌++◌, length, reverse, sym, ap, subst, ◌∙◌, arith, Ok, Err, length-append}
+use Rattle.std.proofs.Common.{◌≡◌, ℕ, ◌+◌, ◌-◌, ◌^◌, ◌<◌, ◌≤◌, [], ◌∷◌, ◌++◌, length, reverse, refl, sym, ap, subst, ◌∙◌, arith, Ok, Err, length-append}
 use Rattle.std.specs.Prelude.{Result}
 use Rattle.std.specs.Int.{w32, to_le_bytes}
 use Rattle.std.proofs.lemmas.List.{length-map}
 use Rattle.arena_chunks.specs.Memory.{Memory}
 use Rattle.arena_chunks.specs.Source.{View}
 use Rattle.arena_chunks.proofs.Layers.{frame_reflexive, frame_behind}
-use Rattle.arena_items.specs.Denied.{IsDenied}
+use Rattle.arena_items.specs.Asks.{Asked, refusal}
 use Rattle.arena_items.specs.LayoutLaws.{plain_4}
 use Rattle.arena_items.specs.declared.item.Item.{Ghosts}
 use Rattle.arena_items.specs.declared.room.AllocError.{AllocError}
-use Rattle.arena_items.specs.declared.room.AllocError.TheVariants.{AllocErr, CapacityOverflow}
+use Rattle.arena_items.specs.declared.room.AllocError.TheVariants.{CapacityOverflow}
 use Rattle.arena_items.proofs.Layers.{length-elements}
 use Rattle.arena_vec.specs.Changes.{Grows}
 use Rattle.arena_vec.specs.Credit.{credit_of as list_credit}
@@ -19,17 +19,17 @@ use Rattle.arena_vec.specs.Vecs.{vec_list}
 use Rattle.arena_vec.specs.declared.vec.Vec.{Vec}
 use Rattle.arena_hash.specs.Accounts.{credit_of}
 use Rattle.arena_hash.specs.Finite.{Finite, value_of}
-use Rattle.arena_symbols.specs.Asks.{LongerList}
+use Rattle.arena_symbols.specs.Asks.{list_ask}
 use Rattle.arena_symbols.specs.Listing.{place_item}
 use Rattle.arena_symbols.specs.Paying.{Pays, far_up}
 use Rattle.arena_symbols.specs.Scoping.{scopes_of}
 use Rattle.arena_symbols.specs.Tables.{Entry, id_kind, pairs_of, entries_in, starts_in, scopes_in, table_blocks, IsTableIn, table_credit}
-use Rattle.arena_symbols.specs.TableCalls.{Enters}
+use Rattle.arena_symbols.specs.TableCalls.{TakesScope, Enters}
 use Rattle.arena_symbols.specs.TableLaws.{table_of}
 use Rattle.arena_symbols.specs.declared.scopes.Scopes.{Scopes}
+use Rattle.arena_symbols.proofs.AskLemmas.{list_taken, list_asked}
 use Rattle.arena_symbols.proofs.BesideLemmas.{plain_beside, vec_beside}
-use Rattle.arena_symbols.proofs.DeniedLemmas.{err_same}
-use Rattle.arena_symbols.proofs.PayLemmas.{Paid, pays_nothing, pays_more, pays_push, denied_push}
+use Rattle.arena_symbols.proofs.PayLemmas.{Paid, pays_nothing, pays_more, pays_push}
 use Rattle.arena_symbols.proofs.ScopeLemmas.{reverse_push, scopes_enter}
 use Rattle.arena_symbols.proofs.TableLemmas.{depth_is, length_recent}
 
@@ -61,10 +61,6 @@ module _ (paid : Paid) {item : Ghosts Entry} (old new : View) {s : Scopes} (v : 
       (pays_push paid place_item plain_4 (omega arith) (omega arith) (omega arith) old new s.starts v
       (vec_list place_item old.memory s.starts ++ s.pairs.raw.len ∷ []) one held.starts (omega (arith, few)) longer result fits grows)
 
-  unplaced : (k : ℕ) → Pushes (Err (AllocErr k)) → IsDenied (LongerList place_item v) new
-  unplaced k grows = denied_push paid place_item plain_4 (omega arith) (omega arith) (omega arith) old new s.starts v
-      (vec_list place_item old.memory s.starts ++ s.pairs.raw.len ∷ []) one held.starts (omega (arith, few)) longer k grows
-
   pub enters : (result : Result (Unit {0}) AllocError) → (result ≡ Err CapacityOverflow → ⊥) → Pushes result
       → Enters item old new s (entered result) result
   enters (Ok x) fits grows =
@@ -92,12 +88,16 @@ module _ (paid : Paid) {item : Ghosts Entry} (old new : View) {s : Scopes} (v : 
       (λ i. scopes_of (pairs_of (vec.list_is i)) (places i))
       ∙ scopes_enter (pairs_of entries) (starts_in old.memory s) s.pairs.raw.len (sym pairs) in
       let frame = frame_behind _ _ _ _ (s.newest.table.block ∷ s.pairs.raw.block ∷ []) grows.frame in
-      grind (arith, still, scopes, fits, few, depth_is item old.memory s, pays_start (Ok x) fits grows, frame)
+      let list = list_taken place_item (omega arith) old new s.starts v (vec_list place_item old.memory s.starts ++ s.pairs.raw.len ∷ [])
+      held.starts x grows in
+      let took : TakesScope old new s after = record { list = list; rest = (refl, refl) } in
+      grind (arith, still, scopes, fits, few, depth_is item old.memory s, took, pays_start (Ok x) fits grows, frame)
   enters (Err e) fits grows =
       let same = grows.err.1 in
       let still : IsTableIn item new.memory (record s { starts = v }) =
       rw grows.err.0 (subst (λ (m : Memory). IsTableIn item m s) (sym same) held) in
       let frame = frame_behind _ _ _ _ (s.newest.table.block ∷ s.pairs.raw.block ∷ []) grows.frame in
-      let denied : (k : ℕ) → (◌≡◌ {A = Result (Unit {0}) AllocError} (Err e) (Err (AllocErr k))) → IsDenied (LongerList place_item v) new =
-      λ k is. unplaced k (rw (err_same is) at grows) in
+      let denied : Asked (list_ask place_item s.starts) old new (refusal e) =
+      list_asked place_item (omega arith) old new s.starts v (vec_list place_item old.memory s.starts ++ s.pairs.raw.len ∷ []) held.starts e
+      (λ is. fits (ap Err is)) grows in
       grind (arith, still, same, grows.err.0, fits, few, depth_is item old.memory s, denied, pays_start (Err e) fits grows, frame)

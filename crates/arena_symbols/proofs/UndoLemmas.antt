@@ -37,6 +37,7 @@ module _ {old new : View} {m w : HashMap ℕ ℕ FxHasher} {id : ℕ}
     held = puts.held;
     values = λ q low. ap (λ (f : Finite ℕ ℕ). value_of (f (to_le_bytes w32 q))) puts.map_is ∙ value_if _ _ _;
     len = let len = rw there at puts.len in omega (arith, len);
+    block = (rw there at puts.made).0;
     places = (puts.costs.there there).1.places;
     credit = (puts.costs.there there).1.credit;
     frame = puts.frame;
@@ -49,6 +50,7 @@ module _ {old new : View} {m w : HashMap ℕ ℕ FxHasher} {id : ℕ}
     held = takes.becomes.held;
     values = λ q low. ap (λ (f : Finite ℕ ℕ). value_of (f (to_le_bytes w32 q))) takes.becomes.map_is ∙ value_if _ _ _;
     len = rw there at takes.len;
+    block = ap (λ t. t.block) takes.becomes.table;
     places = takes.becomes.places;
     credit = takes.becomes.costs.credit;
     frame = rw takes.becomes.table takes.becomes.frame;
@@ -106,9 +108,22 @@ module _ {item : Ghosts Entry} (old : View) {s : Scopes} (n : ℕ) {e : Entry} (
         depth = held.depth;
         count = omega (arith, shown.len, was.count);
       } in
+      let blocks : table_blocks after ≡ table_blocks s =
+      λ i. shown.block i ∷ is.block i ∷ s.starts.raw.block ∷ [] in
       let frame : Frame old.memory new.memory (table_blocks s) (table_blocks after) =
       rw is.block (frame_beside old.memory new.memory _ _ (s.pairs.raw.block ∷ s.starts.raw.block ∷ []) shown.frame) in
-      grind (arith, table_of (ap reverse same) starts_are table, same, len, starts_are, shown.places, shown.credit, less, frame)
+      grind (
+        arith,
+        table_of (ap reverse same) starts_are table,
+        same,
+        len,
+        starts_are,
+        blocks,
+        shown.places,
+        shown.credit,
+        less,
+        frame,
+      )
 
 -- ---- Pairs after pairs
 
@@ -121,4 +136,4 @@ pub cut_then : {item : Ghosts Entry} {old mid new : View} {s t u : Scopes} {n k 
 cut_then {item = item} {old = old} {mid = mid} {new = new} {s = s} {n = n} {m = m} is le first last =
     let entries = last.entries ∙ (λ i. take (is i) (first.entries i)) ∙ take-take m n (entries_in item old.memory s) le in
     let frame = frame_then _ _ _ _ _ _ first.frame last.frame in
-    grind (arith, is, first, last, entries, same_then old mid new first.places last.places, frame)
+    grind (arith, is, first, last, entries, last.blocks ∙ first.blocks, same_then old mid new first.places last.places, frame)

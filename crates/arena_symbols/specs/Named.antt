@@ -1,19 +1,21 @@
 -- The names of a program: an interner and a scoped table in one arena.
-use Rattle.std.specs.Prelude.{◌≡◌, ℕ, ◌+◌, ◌-◌, ◌^◌, ◌≤◌, ◌⊎◌, ◌↔◌, List, [], ◌∷◌, ◌++◌, length, Bool, false, not, Option, Some, None, Result, Err, IfOk, OnOk, OnErr, IsErr, if◌then◌else◌}
+use Rattle.std.specs.Prelude.{◌≡◌, ◌≢◌, ℕ, ◌+◌, ◌-◌, ◌^◌, ◌≤◌, ◌⊎◌, ◌↔◌, List, [], ◌∷◌, ◌++◌, length, Bool, false, not, Option, Some, None, Result, Err, IfOk, IfErr, OnOk, OnErr, IsErr, if◌then◌else◌}
+use Rattle.arena_chunks.specs.Answers.{Answer}
 use Rattle.arena_chunks.specs.Memory.{Memory}
 use Rattle.arena_chunks.specs.Source.{View}
 use Rattle.arena_chunks.specs.Frame.{AreAllApart, Frame}
 use Rattle.arena_store.specs.declared.block.Block.{Block}
+use Rattle.arena_items.specs.Asks.{refusal}
 use Rattle.arena_items.specs.Costs.{Costs}
 use Rattle.arena_items.specs.declared.room.AllocError.{AllocError}
 use Rattle.arena_items.specs.declared.room.AllocError.TheVariants.{AllocErr, CapacityOverflow}
 use Rattle.arena_symbols.specs.Interner.{number_of, with_text, most_texts}
-use Rattle.arena_symbols.specs.Interning.{IsNewInterner, IsTextDenied}
+use Rattle.arena_symbols.specs.Interning.{IsNewInterner, TakesText, IsTextDenied}
 use Rattle.arena_symbols.specs.Names.{IsInternerIn, names_in, names_footprint, names_credit}
 use Rattle.arena_chunks.specs.Asking.{IsCounted}
 use Rattle.arena_symbols.specs.Paying.{far_up}
 use Rattle.arena_symbols.specs.Scoping.{lookup, is_in_last, with_pair, pair_count, most_scopes, most_pairs}
-use Rattle.arena_symbols.specs.TableCalls.{IsNewTable, IsPairDenied}
+use Rattle.arena_symbols.specs.TableCalls.{IsNewTable, TakesPair, IsPairDenied}
 use Rattle.arena_symbols.specs.Tables.{entry_item, IsTableIn, scopes_in, table_blocks, table_credit}
 use Rattle.arena_symbols.specs.declared.names.Names.{Names}
 
@@ -78,12 +80,28 @@ pub record Spends {X : Type 0} (far bytes : ℕ) (old new : View) (n m : Names) 
   pub costs : Costs far bytes (all_credit n) (all_credit m) old new result
   pub told : (k : ℕ) → result ≡ Err (AllocErr k) → IsCounted k old new
 
--- When a declaration overflows, when the arena refuses it, and what it costs.
+-- The name has this number, and what is asked for it as a text; the maps are as they were.
+pub record IsNumbered (old mid : View) (n m : Names) (name : List ℕ) (id : ℕ) : Type 0 where
+  pub took : TakesText old mid n.symbols m.symbols name
+  pub number : number_of (names_in mid.memory m.symbols) name ≡ Some id
+  pub same : scopes_in entry_item mid.memory n.scopes ≡ scopes_in entry_item old.memory n.scopes
+
+-- what is asked for a name: what its text asks for, and then its pair
+abbrev pub TakesName : View → View → Names → Names → List ℕ → Type 0
+TakesName old new n m name =
+    (mid : View) × (id : ℕ) × IsNumbered old mid n m name id × TakesPair entry_item mid new n.scopes m.scopes id
+
+-- The arena doesn't place what the text asks for; or it does, and doesn't place what the pair asks for next.
+abbrev pub IsNameDenied : View → View → Names → Names → List ℕ → Answer → Type 0
+IsNameDenied old new n m name answer = IsTextDenied old new n.symbols m.symbols name answer
+    ⊎ ((mid : View) × (id : ℕ) × IsNumbered old mid n m name id × IsPairDenied entry_item mid new n.scopes m.scopes id answer)
+
+-- When a declaration overflows, what it asks for, whether the arena refuses that, and what it costs.
 pub record DeclaresWithin {X : Type 0} (old new : View) (n m : Names) (name : List ℕ) (result : Result X AllocError) : Type 0 where
   pub overflows : (result ≡ Err CapacityOverflow) ↔ IsFullFor (names_in old.memory n.symbols) (names_in new.memory m.symbols)
       (scopes_in entry_item old.memory n.scopes) name
-  pub denied : (k : ℕ) → result ≡ Err (AllocErr k) → IsTextDenied old new m.symbols name
-      ⊎ ((id : ℕ) × (number_of (names_in new.memory m.symbols) name ≡ Some id) × IsPairDenied entry_item old new n.scopes m.scopes id)
+  pub took : OnOk result (TakesName old new n m name)
+  pub denied : IfErr result (λ e. e ≢ CapacityOverflow → IsNameDenied old new n m name (refusal e))
   pub spends : Spends (far_up - 2 ^ 61) (1536 + length name) old new n m result
 
 -- When a declaration in a scope of its own overflows, and what it costs. It overflows if there are as many scopes as

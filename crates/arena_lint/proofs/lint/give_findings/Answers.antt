@@ -1,6 +1,6 @@
 use Rattle.std.proofs.Common.{[], ◌∷◌}
 use Rattle.std.proofs.lemmas.Result.{on_ok_weaker}
-use Rattle.arena_lint.proofs.LintLemmas.{nothing_known, tree_room, nothing_spends, nothing_stops}
+use Rattle.arena_lint.proofs.LintLemmas.{nothing_known, tree_room, nothing_spends}
 use Rattle.arena_lint.proofs.lint.give_findings.Goals as goal
 
 pub walk-requires-clause-known : goal.walk-requires-clause-known
@@ -14,5 +14,6 @@ returns g c = let nothing = nothing_known c.new_in-known.ensures in record {
   gains = λ trees means. on_ok_weaker c.walk.result (λ both. both.1)
       (c.walk.ensures.finds trees means ([] ∷ []) (nothing.knows c.args.a.now.memory));
   spends = λ trees means. nothing_spends trees c.requires nothing means (c.walk.ensures.takes trees means);
-  stops = λ trees means. nothing_stops trees nothing (c.walk.ensures.goes trees means);
+  asks = λ trees means.
+      record { first = _; last = _; none = c.new_in-known.ensures; goes = c.walk.ensures.goes trees means };
 }

@@ -1,5 +1,5 @@
 use Rattle.std.proofs.lemmas.Bool.Decides.{nat_tests}
-use Rattle.std.proofs.Common.{arith, refl}
+use Rattle.std.proofs.Common.{arith}
 use Rattle.arena_lint.proofs.LintLemmas.{parsed_light, parse_spends, unparsed, checked, unplaced, exhausted, fits}
 use Rattle.arena_lint.proofs.lint.lint_with.Goals as goal
 
@@ -17,12 +17,13 @@ pub returns-in-Ok-give_findings-clause-checked : goal.returns-in-Ok-give_finding
 returns-in-Ok-give_findings-clause-checked g c =
     checked c.in-Ok.tree c.tree_weight.ensures c.requires.unused c.in-Ok.ensures.parses c.in-Ok.ensures.bytes g.F.TakesFindings.taking
     (λ trees means. c.in-Ok-give_findings.ensures.gains trees means) (λ trees means. c.in-Ok-give_findings.ensures.spends trees means)
+    (λ trees means. c.in-Ok-give_findings.ensures.asks trees means)
 
 pub returns-in-Err-AllocErr-clause-other : goal.returns-in-Err-AllocErr-clause-other
 returns-in-Err-AllocErr-clause-other g c = rw c.no_place.ensures (unplaced c.in-Ok.tree c.tree_weight.ensures c.requires.unused c.in-Ok.ensures.parses
     c.in-Ok.ensures.bytes c.in-Err-AllocErr.field-0-0
     (λ trees means. rw c.in-Err-AllocErr.field-0-is at (c.in-Err-AllocErr.ensures.spends trees means))
-    (λ trees means. c.in-Err-AllocErr.ensures.stops trees means c.in-Err-AllocErr.field-0-0 (rw c.in-Err-AllocErr.field-0-is refl)))
+    (λ trees means. rw c.in-Err-AllocErr.field-0-is at (c.in-Err-AllocErr.ensures.asks trees means)))
 
 pub returns-in-Err-OutOfMemory-clause-other : goal.returns-in-Err-OutOfMemory-clause-other
 returns-in-Err-OutOfMemory-clause-other g c = exhausted c.in-Ok.tree c.tree_weight.ensures c.requires.unused c.in-Ok.ensures.parses c.in-Ok.ensures.bytes
