@@ -1,9 +1,11 @@
 // Items of iterators.
-ghost use Rattle.std.specs.Prelude.{◌≡◌, ◌+◌, ◌^◌, ◌≤◌, ◌++◌, [], ◌∷◌, IfOk, OnOk, IfErr, OnErr};
+ghost use Rattle.std.specs.Prelude.{◌≡◌, ℕ, ◌+◌, ◌^◌, ◌≤◌, ◌++◌, [], ◌∷◌, Ok, IfOk, OnOk, IfErr, OnErr};
 ghost use Rattle.std.specs.Iterator.{IsFinite};
 ghost use Rattle.std.specs.Iterator.SizeHint.{IsWithinCount};
 ghost use Rattle.arena_chunks.specs.Frame.{Frame};
+ghost use Rattle.arena_chunks.specs.Source.{View};
 ghost use Rattle.raw_vec.specs.Growth.{amortised_growth};
+ghost use Rattle.raw_vec.specs.Storage.{Makes};
 ghost use Rattle.arena_vec.specs.Vecs.{IsVecIn, vec_list};
 ghost use Rattle.arena_vec.specs.Changes.{Grows};
 ghost use Rattle.arena_vec.specs.Extending.{hinted_growth, first_room, TakesAll, TakesSome, BuildsWith, BuildsFrom};
@@ -105,8 +107,8 @@ impl<T: Item> Vec<T> {
         Ok(())
     }
 
-    /// Returns a vector of an iterator's items, with room at first for exactly `room`. If more come it grows, as by
-    /// `extend`.
+    /// Returns a vector of an iterator's items, with room at first for exactly `room`. No item is taken before there is
+    /// that room. If more come it grows, as by `extend`.
     ///
     /// # Errors
     ///
@@ -119,7 +121,8 @@ impl<T: Item> Vec<T> {
     where
         I: Drop,
         requires small { T.SIZE ≤ 2 ^ 24 }
-        requires can { I.can_next iter }
+        requires can { (between : View) (empty : Vec T)
+            → Makes T.Item (λ v. v.raw) a.old between room [] (Ok empty) → I.can_next iter }
         requires ends { IsFinite (I.remaining iter) }
         ensures held { IfOk result (IsVecIn T.Item a.new.memory) }
         ensures frame { IfOk result (λ v. Frame a.old.memory a.new.memory [] (v.raw.block ∷ [])) }
@@ -145,7 +148,8 @@ impl<T: Item> Vec<T> {
     where
         I: Drop,
         requires small { T.SIZE ≤ 2 ^ 24 }
-        requires can { I.can_next iter }
+        requires can { (room : ℕ) (between : View) (empty : Vec T)
+            → Makes T.Item (λ v. v.raw) a.old between room [] (Ok empty) → I.can_next iter }
         requires ends { IsFinite (I.remaining iter) }
         ensures held { IfOk result (IsVecIn T.Item a.new.memory) }
         ensures frame { IfOk result (λ v. Frame a.old.memory a.new.memory [] (v.raw.block ∷ [])) }
