@@ -45,16 +45,16 @@ resized_by_alloc old mid new addr size m (Some q) valid same moves high =
     below_cursor old new addr size q m valid (rw same at moves) (rw same at high)
 
 -- one at the cursor that moves down
-pub resized_down : (old new : Cursor) (addr size q m : ℕ) → IsTrue (is_in_use old addr size) → addr ≡ old.cursor
-    → MovesTo old new (Some q) → size ≤ m → q + (m - size) ≤ old.cursor → IsResized old new addr size q m
-resized_down old new addr size q m used here moves more high =
+pub resized_down : (old new : Cursor) (addr size q m n : ℕ) → IsTrue (is_in_use old addr size) → addr ≡ old.cursor
+    → MovesTo old new (Some q) → size ≤ m → m ≤ n → q + (n - size) ≤ old.cursor → IsResized old new addr size q m
+resized_down old new addr size q m n used here moves more pads high =
     let top = (used_is old addr size used).high in
     rw moves (record {
-      used = is_used (record old { cursor = q }) q m (omega arith) (omega (arith, here, top, more, high));
-      apart = λ p n other apart some size_some.
-          let low = (used_is old p n other).low in
-          let beyond = past addr size p n apart (omega (arith, low, here)) size_some in
-          inl (omega (arith, here, more, high, beyond));
+      used = is_used (record old { cursor = q }) q m (omega arith) (omega (arith, here, top, more, pads, high));
+      apart = λ p k other apart some size_some.
+          let low = (used_is old p k other).low in
+          let beyond = past addr size p k apart (omega (arith, low, here)) size_some in
+          inl (omega (arith, here, more, pads, high, beyond));
     })
 
 -- one within the old block

@@ -7,18 +7,22 @@ use Rattle.arena_rules.specs.Creation.{empty_state}
 use Rattle.arena_cursor.specs.Steps.{is_valid, arena_of}
 use Rattle.arena_cursor.specs.Growing.{is_region}
 use Rattle.arena_cursor.specs.declared.cursor.Cursor.{Cursor}
-use Rattle.arena_cursor.proofs.PlaceLemmas.{valid_is}
+use Rattle.arena_cursor.proofs.PlaceLemmas.{valid_is, moved_valid}
 
-pub region_is : (base n : ℕ) → IsTrue (is_region base n) → (0 < base) × (base + n ≤ 2 ^ 64 - 1)
-region_is base n is = (grind (arith, nat_tests), grind (arith, nat_tests))
+pub record IsRegion (base n m : ℕ) : Type 0 where
+  pub positive : 0 < base
+  pub end : base + n ≤ 2 ^ 64 - 1
 
-pub entered : (base n : ℕ) → (arena_of (record { start = base; cursor = base + n; end = base + n })).chunks
-    ≡ (with_chunk (base, n) (empty_state 1)).chunks
-entered base n = ap (λ (m : ℕ). record { base = base; size = m; cursor = base + n } ∷ []) {y = n} (omega arith)
+pub region_is : (base n m : ℕ) → IsTrue (is_region base n m) → IsRegion base n m
+region_is base n m is = record { positive = grind (arith, nat_tests); end = grind (arith, nat_tests) }
 
-pub entered_valid : (base n : ℕ) → IsTrue (is_region base n)
-    → IsTrue (is_valid (record { start = base; cursor = base + n; end = base + n }))
-entered_valid base n is = let bounds = region_is base n is in grind (arith, nat_tests, bounds)
+pub entered : (base n m : ℕ) → (arena_of (record { start = base; cursor = base + n; end = base + n; min_align = m })).chunks
+    ≡ (with_chunk (base, n) (empty_state m)).chunks
+entered base n m = ap (λ (k : ℕ). record { base = base; size = k; cursor = base + n } ∷ []) {y = n} (omega arith)
+
+pub entered_valid : (base n m : ℕ) → IsTrue (is_region base n m)
+    → IsTrue (is_valid (record { start = base; cursor = base + n; end = base + n; min_align = m }))
+entered_valid base n m is = grind (arith, nat_tests)
 
 pub reset_is : (at : Cursor) → IsTrue (is_valid at)
     → (arena_of (record at { cursor = at.end })).chunks ≡ emptied (arena_of at).chunks
@@ -29,7 +33,8 @@ reset_is at valid =
     (omega (arith, low, high))
 
 pub reset_valid : (at : Cursor) → IsTrue (is_valid at) → IsTrue (is_valid (record at { cursor = at.end }))
-reset_valid at valid = let is = valid_is at valid in grind (arith, nat_tests, is.positive, is.low, is.high)
+reset_valid at valid =
+    let is = valid_is at valid in moved_valid at at.end is (omega (arith, is.low, is.high)) (omega arith) is.whole_end
 
 pub used_is : (at : Cursor) → IsTrue (is_valid at) → at.end - at.cursor ≡ used_bytes (arena_of at)
 used_is at valid = let is = valid_is at valid in omega (arith, is.low, is.high)

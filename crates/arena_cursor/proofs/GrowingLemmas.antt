@@ -7,14 +7,16 @@ use Rattle.std.proofs.lemmas.Bool.{cases_lt}
 use Rattle.std.proofs.lemmas.Bool.Decides.{nat_tests}
 use native.Mathlib.Nat.{zero-mod}
 use Rattle.arena_rules.specs.Rounding.{up, down, is_layout, is_power}
-use Rattle.arena_rules.specs.Search.{halves, possible, entries, asked_above, next_base, size_for, chunk_align, place_below}
-use Rattle.arena_rules.proofs.RoundingLemmas.{up_ge, up_least, down_le, down_mod, down_greatest, sum_multiple, difference_multiple, power_positive, power_multiple, max_power, pow_power, layout_power, layout_small}
+use Rattle.arena_rules.specs.State.{is_min_align, State, Chunk, newest_size}
+use Rattle.arena_rules.specs.Search.{asked, halves, possible, entries, asked_above, next_base, size_for, chunk_align, place_below}
+use Rattle.arena_rules.proofs.RoundingLemmas.{up_ge, up_least, down_le, down_mod, down_greatest, sum_multiple, difference_multiple, power_positive, power_multiple, max_power, pow_power, layout_power, layout_small, min_align_power, min_align_le}
 use Rattle.arena_rules.proofs.SearchLemmas.{possible_some, possible_none, size_valid, entries_pass, entries_next, entries_end, asked_above_is}
 use Rattle.arena_rules.proofs.EntryLemmas.{possible_entry}
 use Rattle.arena_rules.proofs.PlaceLemmas.{place_found, past_none}
 use Rattle.arena_cursor.specs.Growing.{sizes_of, size_after, IsRequest}
-use Rattle.arena_cursor.specs.declared.growing.Chunk.{Chunk}
-use Rattle.arena_cursor.proofs.PlaceLemmas.{max_one}
+use Rattle.arena_cursor.specs.Steps.{arena_of, arena_over}
+use Rattle.arena_cursor.specs.declared.cursor.Cursor.{Cursor}
+use Rattle.arena_cursor.specs.declared.growing.Chunk.{Chunk as Request}
 
 -- ---- The request for a tried size
 
@@ -35,16 +37,17 @@ pub entry_none : (tried size align : ℕ) → None ≡ size_for tried size align
 entry_none tried size align is = possible_none 0 size align tried is
 
 -- a block has a place above an aligned base
-holds : (size align bytes base : ℕ) → IsTrue (is_power align) → up size (chunk_align align) ≤ bytes → 0 < base
-    → base % chunk_align align ≡ 0 → IsSome (place_below base (base + bytes) size align 1)
-holds size align bytes base power room positive aligned =
+holds : (size align bytes base m : ℕ) → IsTrue (is_power align) → IsTrue (is_min_align m) → up size (chunk_align align) ≤ bytes → 0 < base
+    → base % chunk_align align ≡ 0 → IsSome (place_below base (base + bytes) size align m)
+holds size align bytes base m power least room positive aligned =
     let unit = max_power align 16 power (pow_power 4 (omega arith)) in
-    let whole : base % align ≡ 0 = power_multiple base align (chunk_align align) power unit (omega arith) aligned in
-    let whole_one : base % max align 1 ≡ 0 = rw (max_one align power) whole in
+    let both = max_power align m power (min_align_power m least) in
+    let small = min_align_le m least in
+    let whole = power_multiple base (max align m) (chunk_align align) both unit (omega (arith, small)) aligned in
     let fits = up_ge size (chunk_align align) (power_positive (chunk_align align) unit) in
-    rw (place_found base (base + bytes) size align 1 power refl whole_one (omega (arith, room, fits))) refl
+    rw (place_found base (base + bytes) size align m power least whole (omega (arith, room, fits))) refl
 
-pub request_is : (tried size align bytes : ℕ) (chunk : Chunk) → 0 < tried → IsTrue (is_layout size align)
+pub request_is : (tried size align bytes : ℕ) (chunk : Request) → 0 < tried → IsTrue (is_layout size align)
     → Some bytes ≡ size_for tried size align → chunk.size ≡ bytes → chunk.bytes ≡ bytes + 48 → chunk.align ≡ max align 16
     → IsRequest size align chunk
 request_is tried size align bytes chunk some layout is same more at =
@@ -55,8 +58,8 @@ request_is tried size align bytes chunk some layout is same more at =
       unit = at;
       layout = rw (more, at) (size_valid tried size align bytes is);
       whole = subst (λ (n : ℕ). n % 16 ≡ 0) (sym same) entry.units;
-      holds = λ base positive aligned.
-          rw same (holds size align bytes base power entry.holds positive (subst (λ (n : ℕ). base % n ≡ 0) at aligned));
+      holds = λ base m positive aligned least.
+          rw same (holds size align bytes base m power least entry.holds positive (subst (λ (n : ℕ). base % n ≡ 0) at aligned));
     }
 
 pub ruleset request_laws = (data_small, entry_some, entry_none, request_is)
@@ -129,19 +132,29 @@ down_moved n t d positive multiple =
     (omega (arith, down_le (n + t) d)) in
     omega (arith, up_to, back)
 
-pub places_anywhere : (start cursor size align t : ℕ) → 0 < start → IsTrue (is_power align) → t % align ≡ 0
-    → place_below (start + t) (cursor + t) size align 1 ≡ option_map (λ (p : ℕ). p + t) (place_below start cursor size align 1)
-places_anywhere start cursor size align t positive power multiple = elim (cases_lt cursor size) [
+pub places_anywhere : (start cursor size align m t : ℕ) → 0 < start → IsTrue (is_power align) → IsTrue (is_min_align m)
+    → t % max align m ≡ 0
+    → place_below (start + t) (cursor + t) size align m ≡ option_map (λ (p : ℕ). p + t) (place_below start cursor size align m)
+places_anywhere start cursor size align m t positive power least whole = elim (cases_lt cursor size) [
   | inl past ↦
-      let low = down_le (cursor + t - size) (max align 1) in
-      let none : place_below (start + t) (cursor + t) size align 1 ≡ None = grind (arith, nat_tests, low) in
-      rw (none, sym (past_none start cursor size align 1 positive past)) refl
+      let low = down_le (cursor + t - size) (max align m) in
+      let none : place_below (start + t) (cursor + t) size align m ≡ None = grind (arith, nat_tests, low) in
+      rw (none, sym (past_none start cursor size align m positive past)) refl
   | inr within ↦
-      let whole : t % max align 1 ≡ 0 = rw (max_one align power) multiple in
-      let some : 0 < max align 1 = omega arith in
-      let moved : down (cursor + t - size) (max align 1) ≡ down (cursor - size) (max align 1) + t =
-      ap (λ (n : ℕ). down n (max align 1)) {y = cursor - size + t} (omega (arith, within)) ∙ down_moved (cursor - size) t (max align 1) some whole in
+      let some = power_positive (max align m) (max_power align m power (min_align_power m least)) in
+      let moved : down (cursor + t - size) (max align m) ≡ down (cursor - size) (max align m) + t =
+      ap (λ (n : ℕ). down n (max align m)) {y = cursor - size + t} (omega (arith, within)) ∙ down_moved (cursor - size) t (max align m) some whole in
       grind (arith, nat_tests, moved)
 ]
 
 pub ruleset address_laws = (sizes_anywhere, places_anywhere)
+
+-- ---- Older chunks
+
+pub asked_over : (at : Cursor) (n : ℕ) (older : List Chunk) (size align : ℕ) → IsTrue (is_power align)
+    → next_base (at.start + (at.end - at.start) + 48) align ≤ 2 ^ 63
+    → sizes_of (asked (arena_over at n older) size align) ≡ sizes_of (asked_above 0 (at.end - at.start) size align)
+unfolding asked
+asked_over at n older size align power low = sizes_anywhere (at.start + (at.end - at.start) + 48) (at.end - at.start) size align power low
+
+pub ruleset older_laws = (asked_over)

@@ -6,12 +6,13 @@
 #![tactic(auto)]
 
 ghost use Rattle.std.specs.Prelude.{◌≡◌, ◌≢◌, ◌+◌, ◌-◌, ◌%◌, ◌^◌, ◌≤◌, ◌&&◌, IsTrue, false, true, Some, None, nat_le, nat_lt, is_some};
+ghost use Rattle.std.specs.Option.{option_map_or};
 ghost use Rattle.arena_rules.specs.Rounding.{is_layout};
-ghost use Rattle.arena_rules.specs.State.{start_of, cursor_of, used_bytes, allocated_bytes};
+ghost use Rattle.arena_rules.specs.State.{is_min_align, start_of, cursor_of, used_bytes, allocated_bytes};
 ghost use Rattle.arena_rules.specs.Search.{place_below, size_for};
 ghost use Rattle.arena_rules.specs.Moves.{dealloc, grow, shrink, emptied, with_chunk};
 ghost use Rattle.arena_rules.specs.Creation.{empty_state};
-ghost use Rattle.arena_cursor.specs.Steps.{is_valid, is_in_use, is_mark, arena_of, answer_of, IsCode, IsStep, IsResized};
+ghost use Rattle.arena_cursor.specs.Steps.{is_valid, is_in_use, is_outside, is_mark, arena_of, answer_of, refuses_growth, growth_outside, shrinking_outside, IsCode, IsStep, IsResized};
 ghost use Rattle.arena_cursor.specs.Growing.{size_after, IsRequest, IsRequestCode, is_region};
 
 mod cursor;
@@ -21,10 +22,11 @@ mod laws;
 mod tests;
 
 use arena_place::Layout;
+use cursor::{find, is_min_align, is_region};
 pub use cursor::{Counts, Cursor};
 pub use growing::Chunk;
 use growing::{request_after, request_for};
-pub use laws::any_address;
+pub use laws::{any_address, any_older};
 
 // The rule gives an address, which is returned.
 const DONE: u32 = 0;
@@ -38,11 +40,53 @@ const BAD_LAYOUT: u32 = 2;
 // The three numbers of the cursor are in no order, or it starts at 0.
 const BAD_CURSOR: u32 = 3;
 
-// A block or a mark isn't in use, or a size is on the wrong side of the old one.
+// A block or a mark isn't in use, or a size or an address is out of range.
 const OUT_OF_RANGE: u32 = 4;
 
+// A block that the rule refuses to resize.
+const REFUSED: u32 = 5;
+
+// A block without a byte in the chunk that is allocated again.
+const ELSEWHERE: u32 = 6;
+
+// A block without a byte in the chunk that stays.
+const STAYS: u32 = 7;
+
+/// Returns where a block of this size and alignment, in bytes, is placed below a cursor, by the rule `place_below`.
+///
+/// Returns 0 if there is no place, if size and alignment are no layout, if the start is 0, or if the least alignment is
+/// none of 1, 2, 4, 8 and 16. This is `arena_cursor_place` on numbers: a caller that keeps a valid cursor moves it to the
+/// result.
+#[unsafe(no_mangle)]
+pub extern "C" fn arena_cursor_find(
+    start: u64,
+    cursor: u64,
+    size: u64,
+    align: u64,
+    min_align: u64,
+) -> u64
+    ensures refused { (nat_lt 0 start && is_min_align min_align && is_layout size align) ≡ false → result ≡ 0 }
+    ensures found { (nat_lt 0 start && is_min_align min_align && is_layout size align) ≡ true
+        → result ≡ option_map_or (λ p. p) (place_below start cursor size align min_align) 0 }
+    ensures aligned { result ≢ 0 → result % align ≡ 0 }
+    ensures least { result ≢ 0 → result % min_align ≡ 0 }
+    ensures low { result ≢ 0 → start ≤ result }
+    ensures high { result ≢ 0 → result + size ≤ cursor }
+{
+    if start == 0 || !is_min_align(min_align) {
+        return 0;
+    }
+    let Some(layout) = Layout::new(size, align) else {
+        return 0;
+    };
+    match find(start, cursor, layout, min_align) {
+        Some(p) => p,
+        None => 0,
+    }
+}
+
 /// Places a block of this size and alignment, in bytes, below the cursor, and writes its address to `addr`, by the rule
-/// `place_below` with a least alignment of 1.
+/// `place_below`.
 ///
 /// Returns 0; 1 if there is no place; 2 if size and alignment are no layout; 3 for a cursor that isn't valid.
 #[unsafe(no_mangle)]
@@ -50,24 +94,25 @@ pub extern "C" fn arena_cursor_place(at: &mut Cursor, size: u64, align: u64, add
     ensures bad_cursor { is_valid at.old ≡ false → result ≡ 3 }
     ensures no_layout { is_valid at.old ≡ true → is_layout size align ≡ false → result ≡ 2 }
     ensures no_place { is_valid at.old ≡ true → is_layout size align ≡ true
-        → place_below at.old.start at.old.cursor size align 1 ≡ None → result ≡ 1 }
+        → place_below at.old.start at.old.cursor size align at.old.min_align ≡ None → result ≡ 1 }
     ensures some_place { is_valid at.old ≡ true → is_layout size align ≡ true
-        → place_below at.old.start at.old.cursor size align 1 ≢ None → result ≡ 0 }
-    ensures placed { result ≡ 0 → place_below at.old.start at.old.cursor size align 1 ≡ Some addr.new }
+        → place_below at.old.start at.old.cursor size align at.old.min_align ≢ None → result ≡ 0 }
+    ensures placed { result ≡ 0 → place_below at.old.start at.old.cursor size align at.old.min_align ≡ Some addr.new }
     ensures moved { result ≡ 0 → at.new ≡ record at.old { cursor = addr.new } }
     ensures aligned { result ≡ 0 → addr.new % align ≡ 0 }
     ensures low { result ≡ 0 → at.old.start ≤ addr.new }
     ensures high { result ≡ 0 → addr.new + size ≤ at.old.cursor }
+    ensures valid { IsTrue (is_valid at.old) → IsTrue (is_valid at.new) }
     ensures same { result ≢ 0 → at.new ≡ at.old }
     ensures kept { result ≢ 0 → addr.new ≡ addr.old }
 {
     if !at.is_valid() {
         return BAD_CURSOR;
     }
-    let Some(layout) = Layout::new(size, align) else {
+    let Some(block) = Layout::new(size, align) else {
         return BAD_LAYOUT;
     };
-    match at.alloc(layout) {
+    match at.alloc(block) {
         Some(p) => {
             *addr = p;
             DONE
@@ -79,14 +124,20 @@ pub extern "C" fn arena_cursor_place(at: &mut Cursor, size: u64, align: u64, add
 /// Gives the block of this size, in bytes, at `addr` back, by the rule `dealloc`: the cursor moves only if the block is
 /// at it.
 ///
-/// Returns 0; 3 for a cursor that isn't valid; 4 if the block isn't in use.
+/// Returns 0; 3 for a cursor that isn't valid; 4 if the block isn't in use; 7, as the rule does nothing, if it isn't but
+/// is empty, or below the start or past the end, in another chunk.
 #[unsafe(no_mangle)]
+#[tactic(auto, using(crate::proofs::StepLemmas::outside_laws))]
 pub extern "C" fn arena_cursor_give_back(at: &mut Cursor, addr: u64, size: u64) -> u32
     ensures bad_cursor { is_valid at.old ≡ false → result ≡ 3 }
-    ensures no_block { is_valid at.old ≡ true → is_in_use at.old addr size ≡ false → result ≡ 4 }
+    ensures no_block { is_valid at.old ≡ true → is_in_use at.old addr size ≡ false → is_outside at.old addr size ≡ false
+        → result ≡ 4 }
+    ensures elsewhere { is_valid at.old ≡ true → is_in_use at.old addr size ≡ false → is_outside at.old addr size ≡ true
+        → (result ≡ 7) × (dealloc (arena_of at.old) addr size ≡ arena_of at.old) }
     ensures done { is_valid at.old ≡ true → is_in_use at.old addr size ≡ true → result ≡ 0 }
     ensures step { result ≡ 0 → arena_of at.new ≡ dealloc (arena_of at.old) addr size }
     ensures ends { (at.new.start ≡ at.old.start) × (at.new.end ≡ at.old.end) }
+    ensures min_align { at.new.min_align ≡ at.old.min_align }
     ensures valid { IsTrue (is_valid at.old) → IsTrue (is_valid at.new) }
     ensures same { result ≢ 0 → at.new ≡ at.old }
 {
@@ -94,7 +145,11 @@ pub extern "C" fn arena_cursor_give_back(at: &mut Cursor, addr: u64, size: u64) 
         return BAD_CURSOR;
     }
     if !at.is_in_use(addr, size) {
-        return OUT_OF_RANGE;
+        return if at.is_outside(addr, size) {
+            STAYS
+        } else {
+            OUT_OF_RANGE
+        };
     }
     at.dealloc(addr, size);
     DONE
@@ -104,8 +159,11 @@ pub extern "C" fn arena_cursor_give_back(at: &mut Cursor, addr: u64, size: u64) 
 /// the caller moves the block's bytes. The new block may overlap the old one.
 ///
 /// Returns 0; 1 if there is no place; 2 if a size and its alignment are no layout; 3 for a cursor that isn't valid; 4 if
-/// the block isn't in use or the new size is smaller. Of several, 3 comes first, then 2.
+/// the block isn't in use or the new size is smaller; 5 if the rule refuses at once, as the growth is no layout; 6 if the
+/// block isn't in use but is empty, or below the start or past the end, in another chunk: by the rule it is allocated
+/// again. Of several, 3 comes first, then 2.
 #[unsafe(no_mangle)]
+#[tactic(auto, using(crate::proofs::StepLemmas::outside_laws))]
 pub extern "C" fn arena_cursor_grow(
     at: &mut Cursor,
     addr: &mut u64,
@@ -114,8 +172,10 @@ pub extern "C" fn arena_cursor_grow(
     new_size: u64,
     new_align: u64,
 ) -> u32
-    ensures code { IsCode (is_valid at.old) (is_layout size align && is_layout new_size new_align)
-        (is_in_use at.old addr.old size && nat_le size new_size) result }
+    ensures code { IsCode (is_valid at.old) (is_layout size align && is_layout new_size new_align) (nat_le size new_size)
+        (is_in_use at.old addr.old size) (is_outside at.old addr.old size)
+        (refuses_growth at.old addr.old size align new_size new_align)
+        (growth_outside at.old addr.old size align new_size new_align) result }
     ensures step { result ≤ 1 → IsStep
         (grow (arena_of at.old) addr.old size align new_size new_align 0) at.old at.new (answer_of result addr.new) }
     ensures resized { result ≡ 0 → IsResized at.old at.new addr.old size addr.new new_size }
@@ -133,8 +193,18 @@ pub extern "C" fn arena_cursor_grow(
     let Some(to) = Layout::new(new_size, new_align) else {
         return BAD_LAYOUT;
     };
-    if !at.is_in_use(*addr, size) || new_size < size {
+    if new_size < size {
         return OUT_OF_RANGE;
+    }
+    if !at.is_in_use(*addr, size) {
+        return if at.is_outside(*addr, size) {
+            ELSEWHERE
+        } else {
+            OUT_OF_RANGE
+        };
+    }
+    if at.refuses(*addr, from, to) {
+        return REFUSED;
     }
     match at.grow(*addr, from, to) {
         Some(p) => {
@@ -148,8 +218,10 @@ pub extern "C" fn arena_cursor_grow(
 /// Shrinks the block at `addr` to `new_size` bytes, by the rule `shrink`, and writes its new address there. If that
 /// differs, the caller moves the block's first `new_size` bytes. The new block may overlap the old one.
 ///
-/// Returns the codes of `arena_cursor_grow`, with 4 where the new size is greater.
+/// Returns the codes of `arena_cursor_grow` but 5, with 4 where the new size is greater, and 7 in place of 6 where the
+/// block stays by the rule.
 #[unsafe(no_mangle)]
+#[tactic(auto, using(crate::proofs::StepLemmas::outside_laws))]
 pub extern "C" fn arena_cursor_shrink(
     at: &mut Cursor,
     addr: &mut u64,
@@ -158,8 +230,9 @@ pub extern "C" fn arena_cursor_shrink(
     new_size: u64,
     new_align: u64,
 ) -> u32
-    ensures code { IsCode (is_valid at.old) (is_layout size align && is_layout new_size new_align)
-        (is_in_use at.old addr.old size && nat_le new_size size) result }
+    ensures code { IsCode (is_valid at.old) (is_layout size align && is_layout new_size new_align) (nat_le new_size size)
+        (is_in_use at.old addr.old size) (is_outside at.old addr.old size) false
+        (shrinking_outside at.old addr.old size align new_size new_align) result }
     ensures step { result ≤ 1 → IsStep
         (shrink (arena_of at.old) addr.old size align new_size new_align 0) at.old at.new (answer_of result addr.new) }
     ensures resized { result ≡ 0 → IsResized at.old at.new addr.old size addr.new new_size }
@@ -177,8 +250,11 @@ pub extern "C" fn arena_cursor_shrink(
     let Some(to) = Layout::new(new_size, new_align) else {
         return BAD_LAYOUT;
     };
-    if !at.is_in_use(*addr, size) || size < new_size {
+    if size < new_size {
         return OUT_OF_RANGE;
+    }
+    if !at.is_in_use(*addr, size) {
+        return at.code_elsewhere(*addr, from, to);
     }
     match at.shrink(*addr, from, to) {
         Some(p) => {
@@ -191,8 +267,10 @@ pub extern "C" fn arena_cursor_shrink(
 
 /// Moves the cursor back up to `mark`, an address at which it was: what was placed since is given back.
 ///
-/// Returns 0; 3 for a cursor that isn't valid; 4 if the mark is below the cursor or past the end.
+/// Returns 0; 3 for a cursor that isn't valid; 4 if the mark is below the cursor, past the end, or no multiple of the
+/// least alignment.
 #[unsafe(no_mangle)]
+#[tactic(auto, using(crate::proofs::PlaceLemmas::mark_valid))]
 pub extern "C" fn arena_cursor_back(at: &mut Cursor, mark: u64) -> u32
     ensures bad_cursor { is_valid at.old ≡ false → result ≡ 3 }
     ensures no_mark { is_valid at.old ≡ true → is_mark at.old mark ≡ false → result ≡ 4 }
@@ -275,19 +353,22 @@ pub extern "C" fn arena_cursor_next_chunk(
 
 /// Makes the cursor that of a new chunk with these bytes for blocks, with nothing in use.
 ///
-/// Returns 0; 4 if the base is 0 or the end exceeds the last address.
+/// Returns 0; 4 if the base is 0, the end exceeds the last address, or it is no multiple of the least alignment, which is
+/// 1, 2, 4, 8 or 16.
 #[unsafe(no_mangle)]
-pub extern "C" fn arena_cursor_enter(at: &mut Cursor, base: u64, size: u64) -> u32
-    ensures no_region { is_region base size ≡ false → result ≡ 4 }
-    ensures done { is_region base size ≡ true → result ≡ 0 }
-    ensures entered { result ≡ 0 → (arena_of at.new).chunks ≡ (with_chunk (base, size) (empty_state 1)).chunks }
+#[tactic(auto, using(arena_rules::proofs::RoundingLemmas::min_align_power))]
+pub extern "C" fn arena_cursor_enter(at: &mut Cursor, base: u64, size: u64, min_align: u64) -> u32
+    ensures no_region { is_region base size min_align ≡ false → result ≡ 4 }
+    ensures done { is_region base size min_align ≡ true → result ≡ 0 }
+    ensures entered { result ≡ 0 → (arena_of at.new).chunks ≡ (with_chunk (base, size) (empty_state min_align)).chunks }
+    ensures min_align { result ≡ 0 → at.new.min_align ≡ min_align }
     ensures valid { result ≡ 0 → IsTrue (is_valid at.new) }
     ensures same { result ≢ 0 → at.new ≡ at.old }
 {
-    if base == 0 || size > u64::MAX - base {
+    if !is_region(base, size, min_align) {
         return OUT_OF_RANGE;
     }
-    at.enter(base, size);
+    *at = Cursor::entered(base, size, min_align);
     DONE
 }
 
@@ -299,7 +380,8 @@ pub extern "C" fn arena_cursor_reset(at: &mut Cursor) -> u32
     ensures bad_cursor { is_valid at.old ≡ false → result ≡ 3 }
     ensures done { is_valid at.old ≡ true → result ≡ 0 }
     ensures emptied { result ≡ 0 → (arena_of at.new).chunks ≡ emptied (arena_of at.old).chunks }
-    ensures valid { result ≡ 0 → IsTrue (is_valid at.new) }
+    ensures min_align { at.new.min_align ≡ at.old.min_align }
+    ensures valid { IsTrue (is_valid at.old) → IsTrue (is_valid at.new) }
     ensures same { result ≢ 0 → at.new ≡ at.old }
 {
     if !at.is_valid() {

@@ -10,6 +10,7 @@ fn fresh() -> Cursor {
         start: 1000,
         cursor: 1100,
         end: 1100,
+        min_align: 1,
     }
 }
 
@@ -139,7 +140,7 @@ fn a_chunk_is_entered_and_emptied(rt: HostRuntime) {
         size: 0,
         free: 0,
     };
-    assert_eq!(rt; arena_cursor_enter(&mut at, 4096, 192), 0);
+    assert_eq!(rt; arena_cursor_enter(&mut at, 4096, 192, 1), 0);
     assert_eq!(rt; (at.start, at.cursor, at.end), (4096, 4288, 4288));
     assert_eq!(rt; arena_cursor_place(&mut at, 100, 4, &mut addr), 0);
     assert_eq!(rt; arena_cursor_count(&at, &mut counts), 0);
@@ -149,7 +150,7 @@ fn a_chunk_is_entered_and_emptied(rt: HostRuntime) {
     );
     assert_eq!(rt; arena_cursor_reset(&mut at), 0);
     assert_eq!(rt; at.cursor, 4288);
-    assert_eq!(rt; arena_cursor_enter(&mut at, 0, 192), 4);
-    assert_eq!(rt; arena_cursor_enter(&mut at, 4096, u64::MAX - 4095), 4);
+    assert_eq!(rt; arena_cursor_enter(&mut at, 0, 192, 1), 4);
+    assert_eq!(rt; arena_cursor_enter(&mut at, 4096, u64::MAX - 4095, 1), 4);
     assert_eq!(rt; (at.start, at.end), (4096, 4288));
 }
