@@ -1,0 +1,5 @@
+mod CountLemmas
+mod MoveLemmas
+mod RangeLemmas
+mod AstLemmas
+pub mod Layers

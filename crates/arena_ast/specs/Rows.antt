@@ -1,0 +1,52 @@
+-- Which nodes and names the arena has of a tree, and why it refuses one more.
+use Rattle.std.specs.Prelude.{◌≡◌, ℕ, ◌+◌, ◌-◌, ◌^◌, ◌≤◌, ◌⊎◌, List, [], ◌∷◌, ◌++◌, length, Err}
+use Rattle.arena_chunks.specs.Memory.{Memory}
+use Rattle.arena_chunks.specs.Source.{View}
+use Rattle.arena_items.specs.declared.item.Item.{Ghosts}
+use Rattle.arena_items.specs.declared.room.AllocError.{AllocError}
+use Rattle.arena_items.specs.declared.room.AllocError.TheVariants.{CapacityOverflow}
+use Rattle.raw_vec.specs.Growth.{amortised_growth}
+use Rattle.arena_vec.specs.Changes.{Grows}
+use Rattle.arena_vec.specs.Vecs.{vec_list}
+use Rattle.arena_vec.specs.declared.vec.Vec.{Vec}
+use Rattle.arena_symbols.specs.Interner.{with_text}
+use Rattle.arena_symbols.specs.Interning.{Interns}
+use Rattle.arena_symbols.specs.Names.{names_in}
+use Rattle.arena_symbols.specs.declared.symbols.Symbols.{Symbols}
+use Rattle.arena_ast.specs.declared.ast.Ast.{Ast}
+
+-- names by their numbers, and nodes by their indices
+pub record Rows (T : Type 0) : Type 0 where
+  pub names : List (List ℕ)
+  pub nodes : List T
+
+abbrev pub no_rows : {T : Type 0} → Rows T
+no_rows = record { names = []; nodes = [] }
+
+-- the rows once a name has a number, and with one node more
+abbrev pub with_name : {T : Type 0} → Rows T → List ℕ → Rows T
+with_name rows name = record { names = with_text rows.names name; nodes = rows.nodes }
+
+abbrev pub with_node : {T : Type 0} → Rows T → T → Rows T
+with_node rows node = record { names = rows.names; nodes = rows.nodes ++ node ∷ [] }
+
+-- the index of the last node
+abbrev pub last_of : {T : Type 0} → Rows T → ℕ
+last_of rows = length rows.nodes - 1
+
+-- what the arena has of a tree
+abbrev pub rows_in : {T : Type 0} → Ghosts T → Memory → Ast T → Rows T
+rows_in item memory tree = record { names = names_in memory tree.names; nodes = vec_list item memory tree.nodes }
+
+-- ---- Refusals: the record of the call that was refused says when that may be, and with which error
+
+-- of this node, the next one
+abbrev pub NodeRefused : {T : Type 0} → Ghosts T → View → View → Ast T → T → AllocError → Type 0
+NodeRefused {T} item old new tree node error = (after : Vec T) × Grows {X = Unit {0}} item old new tree.nodes
+    (amortised_growth item.SIZE tree.nodes.raw.cap (tree.nodes.raw.len + 1)) (vec_list item old.memory tree.nodes ++ node ∷ [])
+    after (Err error)
+
+-- of this name, or it is too long
+abbrev pub NameRefused : {T : Type 0} → View → View → Ast T → List ℕ → AllocError → Type 0
+NameRefused old new tree name error = ((after : Symbols) × Interns old new tree.names after name (Err error))
+    ⊎ ((error ≡ CapacityOverflow) × (2 ^ 32 ≤ length name) × (new ≡ old))

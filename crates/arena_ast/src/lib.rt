@@ -1,0 +1,16 @@
+//! Syntax trees of a caller's own node type: nodes that name each other by index, and an interner of names beside them,
+//! as one value in an arena.
+#![tactic(auto)]
+
+mod ast;
+mod by_parts;
+pub mod laws;
+mod linked;
+mod lists;
+mod values;
+
+pub use arena_items::Beside;
+pub use ast::Ast;
+pub use by_parts::{ByParts, Parts};
+pub use linked::Linked;
+pub use lists::{Listed, list_operands};

@@ -1,0 +1,12 @@
+-- What a tree's handle means, as proofs name it.
+use Rattle.arena_ast.specs.AstLaws.{ast_kind}
+use Rattle.arena_ast.specs.Forms.{by_parts, pair_item, byte, word}
+use Rattle.arena_ast.specs.declared.ast.Ast.{Ast}
+use Rattle.arena_ast.specs.declared.by_parts.ByParts.{ByParts}
+use Rattle.arena_items.specs.declared.values.InArena.{Ghosts}
+use Rattle.example_parser.specs.Nodes.{IsAfter}
+use Rattle.example_parser.specs.contracts.nodes.NodeParts.TheImpl.{ghosts}
+use Rattle.example_parser.specs.declared.nodes.Node.{Node}
+
+abbrev pub tree_kind : Ghosts (Ast (ByParts Node))
+tree_kind = ast_kind (by_parts (pair_item byte (pair_item word word)) ghosts.parts ghosts.whole) (λ at node. IsAfter at node.0)
