@@ -20,3 +20,5 @@ pub mod FoldTreeLemmas
 pub mod TotalLemmas
 mod ParseLemmas
 pub mod Layers
+pub mod RunLemmas
+pub mod PartRunLemmas

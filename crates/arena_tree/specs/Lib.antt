@@ -13,6 +13,7 @@ pub mod Given
 pub mod Layouts
 pub mod Spending
 pub mod Stops
+pub mod Asking
 pub mod Parsing
 pub mod Cloning
 pub mod Folding

@@ -3,6 +3,7 @@ ghost use Rattle.std.specs.Prelude.{ℕ, ◌^◌, ◌≤◌, length, IfOk};
 ghost use Rattle.arena_chunks.specs.Source.{View};
 ghost use Rattle.tree_rules.specs.Refusals.{most_nest};
 ghost use Rattle.arena_tree.specs.Parts.{IsStart, IsFactor, IsTerm, IsTerms, NoFactorIn, NoTermsIn};
+ghost use Rattle.arena_tree.specs.Asking.{FactorRan, TermRan, TermsRan, FirstFactorRan, FirstTermRan};
 ghost use Rattle.arena_tree.specs.Spending.{SpendsUpTo, IsFirstFactor, IsFirstTerm};
 ghost use Rattle.arena_tree.specs.Stops.{OnText};
 
@@ -29,6 +30,7 @@ fn factor<C: ChunkSource>(
     requires nest { deep ≤ most_nest }
     ensures tree { IfOk result (λ end. IsFactor deep src.now at end a.old.memory a.new.memory node.new) }
     ensures spends { SpendsUpTo at src.now a.old a.new result }
+    ensures ran { IfOk result (λ end. FactorRan src.now at end a.old a.new) }
     ensures text { OnText result (NoFactorIn deep src.now at) }
 {
     match start_at(src, at) {
@@ -62,6 +64,7 @@ fn minus<C: ChunkSource>(
     requires nest { deep ≤ most_nest }
     ensures tree { IfOk result (λ end. IsFactor deep src.now at end a.old.memory a.new.memory node.new) }
     ensures spends { SpendsUpTo at src.now a.old a.new result }
+    ensures ran { IfOk result (λ end. FactorRan src.now at end a.old a.new) }
     ensures text { OnText result (NoFactorIn deep src.now at) }
 {
     if deep == MOST_OPEN {
@@ -88,6 +91,7 @@ fn paren<C: ChunkSource>(
     requires nest { deep ≤ most_nest }
     ensures tree { IfOk result (λ end. IsFactor deep src.now at end a.old.memory a.new.memory node.new) }
     ensures spends { SpendsUpTo at src.now a.old a.new result }
+    ensures ran { IfOk result (λ end. FactorRan src.now at end a.old a.new) }
     ensures text { OnText result (NoFactorIn deep src.now at) }
 {
     if deep == MOST_OPEN {
@@ -113,6 +117,7 @@ fn term<C: ChunkSource>(
     requires nest { deep ≤ most_nest }
     ensures tree { IfOk result (λ end. IsTerm deep src.now at end a.old.memory a.new.memory node.new) }
     ensures spends { SpendsUpTo at src.now a.old a.new result }
+    ensures ran { IfOk result (λ end. TermRan src.now at end a.old a.new) }
     ensures text { OnText result (NoTermsIn deep src.now at) }
 {
     let end = factor(a, src, at, deep, node)?;
@@ -145,6 +150,8 @@ fn factors<C: ChunkSource>(
         → IfOk result (λ end. IsTerm deep src.now from end old.memory a.new.memory node.new) }
     ensures spends { (from : ℕ) (old : View) → IsFirstFactor deep src.now from at old a.old node.old
         → SpendsUpTo from src.now old a.new result }
+    ensures ran { (from : ℕ) (old : View) → FirstFactorRan src.now from at old a.old
+        → IfOk result (λ end. TermRan src.now from end old a.new) }
     ensures text { (from : ℕ) (old : View) → IsFirstFactor deep src.now from at old a.old node.old
         → OnText result (NoTermsIn deep src.now from) }
 {
@@ -181,6 +188,7 @@ pub(crate) fn expr<C: ChunkSource>(
     requires nest { deep ≤ most_nest }
     ensures tree { IfOk result (λ end. IsTerms deep src.now at end a.old.memory a.new.memory node.new) }
     ensures spends { SpendsUpTo at src.now a.old a.new result }
+    ensures ran { IfOk result (λ end. TermsRan src.now at end a.old a.new) }
     ensures text { OnText result (NoTermsIn deep src.now at) }
 {
     let end = term(a, src, at, deep, node)?;
@@ -208,6 +216,8 @@ fn terms<C: ChunkSource>(
         → IfOk result (λ end. IsTerms deep src.now from end old.memory a.new.memory node.new) }
     ensures spends { (from : ℕ) (old : View) → IsFirstTerm first deep src.now from at old a.old node.old
         → SpendsUpTo from src.now old a.new result }
+    ensures ran { (from : ℕ) (old : View) → FirstTermRan first src.now from at old a.old
+        → IfOk result (λ end. TermsRan src.now from end old a.new) }
     ensures text { (from : ℕ) (old : View) → IsFirstTerm first deep src.now from at old a.old node.old
         → OnText result (NoTermsIn deep src.now from) }
 {

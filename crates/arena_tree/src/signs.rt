@@ -1,8 +1,10 @@
 // Negated expressions.
-ghost use Rattle.std.specs.Prelude.{OnOk};
+ghost use Rattle.std.specs.Prelude.{None, OnOk};
 ghost use Rattle.arena_chunks.specs.Memory.{Memory};
 ghost use Rattle.tree_rules.specs.Trees.{Expr, Neg};
-ghost use Rattle.arena_tree.specs.TreesAt.{IsPlaced};
+ghost use Rattle.arena_items.specs.Asks.{Fresh};
+ghost use Rattle.arena_tree.specs.TreesAt.{IsPlaced, kids_of};
+ghost use Rattle.arena_tree.specs.Asking.{AsksFor, AsksSign};
 ghost use Rattle.arena_tree.specs.Layouts.{ListOf};
 ghost use Rattle.arena_tree.specs.Parts.{signed_tree};
 ghost use Rattle.arena_tree.specs.Spending.{Spends, error_of, node_cost};
@@ -16,6 +18,7 @@ pub(crate) fn negate<C: ChunkSource>(a: &mut Allocator<C>, node: &mut Node) -> G
     ensures tree { (e : Expr) (old : Memory) → IsPlaced e old a.old.memory node.old
         → OnOk result (IsPlaced (Neg e) old a.new.memory node.new) }
     ensures spends { Spends (ListOf 1) node_cost 0 0 a.old a.new (error_of result) }
+    ensures asks { AsksFor (Fresh 88 8) None (λ u. (kids_of node.new).raw.block) a.old a.new result }
 {
     wrap(a, Kind::Neg, node)
 }
@@ -26,6 +29,7 @@ pub(crate) fn sign<C: ChunkSource>(a: &mut Allocator<C>, minus: bool, node: &mut
     ensures tree { (e : Expr) (old : Memory) → IsPlaced e old a.old.memory node.old
         → OnOk result (IsPlaced (signed_tree minus e) old a.new.memory node.new) }
     ensures spends { Spends (ListOf 1) node_cost 0 0 a.old a.new (error_of result) }
+    ensures asks { AsksSign minus (λ u. (kids_of node.new).raw.block) a.old a.new result }
 {
     if minus {
         return negate(a, node);

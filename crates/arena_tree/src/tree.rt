@@ -3,6 +3,7 @@ ghost use Rattle.std.specs.Prelude.{◌≡◌, ◌^◌, ◌≤◌, None, length,
 ghost use Rattle.tree_rules.specs.Reading.{refusal_of};
 ghost use Rattle.arena_tree.specs.declared.stop.Stop.{Stop};
 ghost use Rattle.tree_rules.specs.Trees.{Stmts, text};
+ghost use Rattle.arena_tree.specs.Asking.{ProgramRan};
 ghost use Rattle.arena_tree.specs.Cloning.{Clones, clone_bytes};
 ghost use Rattle.arena_tree.specs.Given.{IsTreeIn, IsLeanTree, Means};
 ghost use Rattle.arena_tree.specs.Folding.{Folds};
@@ -88,6 +89,7 @@ impl Tree {
         ensures tree { IfOk result (IsTreeIn a.new.memory) }
         ensures lean { IfOk result (IsLeanTree a.new.memory) }
         ensures bytes { TakesAtMost (parse_bytes (length src.now)) a.old a.new }
+        ensures asks { IfOk result (λ t. ProgramRan src.now a.old a.new) }
     {
         machine();
         match refusal(src) {
@@ -111,6 +113,7 @@ impl Tree {
         ensures tree { IfOk result (IsTreeIn a.new.memory) }
         ensures lean { IfOk result (IsLeanTree a.new.memory) }
         ensures bytes { TakesAtMost (parse_bytes (length src.now)) a.old a.new }
+        ensures asks { IfOk result (λ t. ProgramRan src.now a.old a.new) }
     {
         some_reading();
         machine();

@@ -27,7 +27,9 @@ pub clone_node-returns-in_ok-name-in-Name-clause-spends : goal.clone_node-return
 clone_node-returns-in_ok-name-in-Name-clause-spends g t c = grind (arith, nat_tests, asks_any, part_spends, text_of)
 
 pub clone_node-returns-in_err-name-in-Name-clause-spends : goal.clone_node-returns-in_err-name-in-Name-clause-spends
-clone_node-returns-in_err-name-in-Name-clause-spends g t c = grind (arith, nat_tests, err_spends, asks_of, text_copy, part_spends, text_of)
+clone_node-returns-in_err-name-in-Name-clause-spends g t c = λ tree at.
+    err_spends _ _ c.from_residual.ensures (asks_of (text_copy tree _ _ at (inl c.in-Name.is))
+    (part_spends tree (omega (arith, (text_of _ _ tree at (inl c.in-Name.is)).1)) c.in_err-name-in-Name.ensures.spends))
 
 -- ---- A definition
 

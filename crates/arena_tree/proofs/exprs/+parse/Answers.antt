@@ -1,4 +1,4 @@
-use Rattle.std.proofs.Common.{ℕ, ap, sym, subst, refl, inl, inr, length-set, length-take, ◌∙◌, arith}
+use Rattle.std.proofs.Common.{◌≡◌, ◌+◌, ℕ, ap, sym, subst, refl, inl, inr, length, length-set, length-take, set, take, ◌∙◌, arith}
 use Rattle.std.specs.Prelude.{slice_range}
 use Rattle.arena_store.specs.declared.block.Block.{Block}
 use Rattle.tree_rules.specs.Grammar.{ANumber, AName, InParens, Negated, OneFactor, Times, OneTerm, factor_tree, factors_tree}
@@ -11,6 +11,10 @@ use Rattle.arena_tree.proofs.AskedLemmas.{asked_name, asked_list, asked_all, ask
 use Rattle.arena_tree.proofs.PartCostLemmas.{stops_more, arena_stops, text_stops, err_up_to, err_text}
 use Rattle.arena_tree.proofs.PartLemmas.{reads_then, reads_in, reads_leaf, reads_plain, reads_star, reads_sign, refused_then, in_paren, in_sign, unsigned, opens_paren, closes_paren, opens_sign, deep_paren, deep_sign, joined, terms_placed}
 use Rattle.arena_tree.proofs.GatherLemmas.{first_child, set_twice, kid_read, sign_placed, factor_more, term_more, stop_behind, put_all, read_on, whole, read_into}
+use Rattle.tree_rules.specs.Grammar.{spell_factor, spell_factors}
+use Rattle.arena_items.proofs.Layers.{empty_solid}
+use Rattle.arena_tree.specs.Asking.{factor_asks, factors_asks}
+use Rattle.arena_tree.proofs.PartRunLemmas.{number_ran, name_ran, negated_ran, parens_ran, one_factor_ran, one_term_ran, first_ran, is_more, factors_first, factors_last, factors_more, factors_four, terms_first, terms_last, terms_more, terms_four}
 use Rattle.arena_tree.proofs.exprs.+parse.Goals as goal
 
 pub factor-returns-in-Some-Number-clause-tree : goal.factor-returns-in-Some-Number-clause-tree
@@ -22,6 +26,11 @@ factor-returns-in-Some-Number-clause-tree g t c =
       stopped = tt;
       placed = number_placed _ _ _ c.number.ensures.node;
     }
+
+pub factor-returns-in-Some-Number-clause-ran : goal.factor-returns-in-Some-Number-clause-ran
+factor-returns-in-Some-Number-clause-ran g t c =
+    let number = rw c.in-Some-Number.field-0-is at c.in-Some-Number.ensures.some in
+    number_ran number.0
 
 pub factor-returns-in_ok-name_node-in-Some-Word : goal.factor-returns-in_ok-name_node-in-Some-Word
 factor-returns-in_ok-name_node-in-Some-Word g t c =
@@ -35,6 +44,7 @@ factor-returns-in_ok-name_node-in-Some-Word g t c =
         placed = c.in_ok-name_node-in-Some-Word.ensures.tree;
       };
       spends = asks_any (spends_more c.in_ok-name_node-in-Some-Word.ensures.spends (omega arith) (omega arith));
+      ran = name_ran word.0 c.in_ok-name_node-in-Some-Word.ensures.asks;
       text = tt;
     }
 
@@ -58,6 +68,7 @@ minus-returns g t c =
       };
       spends = asks_any (spends_then k.spends c.in_ok-negate.ensures.spends (frees k.tree.placed.frame) (omega arith) (omega arith)
           (omega arith));
+      ran = negated_ran minus k.ran c.in_ok-negate.ensures.asks;
       text = tt;
     }
 
@@ -86,6 +97,7 @@ paren-returns g t c =
         placed = k.tree.placed;
       };
       spends = spends_more k.spends (omega (arith, close.later)) (omega (arith, close.later));
+      ran = parens_ran paren k.ran close;
       text = tt;
     }
 
@@ -115,6 +127,7 @@ paren-returns-in_default g t c =
     record {
       tree = tt;
       spends = text_stops k.spends k.tree.placed.frame (omega (arith, c.requires.start.later, k.tree.within));
+      ran = tt;
       text = refused_then (opens_paren c.requires.nest c.if-deep-eq-MOST_OPEN.false c.requires.start)
           (refused_then (reads_in in_paren k.tree.read) (λ o. c.in_default.ensures.none o.opens));
     }
@@ -138,8 +151,12 @@ term-returns-in-Some g t c =
     record {
       tree = c.factors.ensures.tree c.args.at c.args.a.now first;
       spends = c.factors.ensures.spends c.args.at c.args.a.now first;
+      ran = c.factors.ensures.ran c.args.at c.args.a.now (first_ran {spelled = spell_factor} {asks = factor_asks} k.ran c.in-Some.ensures.some);
       text = c.factors.ensures.text c.args.at c.args.a.now first;
     }
+
+pub term-returns-in-None-clause-ran : goal.term-returns-in-None-clause-ran
+term-returns-in-None-clause-ran g t c = one_factor_ran c.in_ok-end.ensures.ran
 
 pub factors-loop-stop-init : goal.factors-loop-stop-init
 factors-loop-stop-init g t c =
@@ -158,6 +175,8 @@ factors-loop-stop-init g t c =
         few = omega (arith, first.long, list.len);
         spends = asks_any (spends_more first.spends (omega arith) (omega (arith, list.len)));
       };
+      row = λ from old first. factors_first first
+          (empty_solid c.new_in-list.result.raw.block (ap (λ (b : Block). b.size) list.block)) list.len list.cap;
     }
 
 pub factors-returns-in_err-stop-clause-spends : goal.factors-returns-in_err-stop-clause-spends
@@ -196,6 +215,13 @@ factors-returns-in_default g t c =
           };
       spends = λ from old first. asks_any (put_all (factor_more _ c.loop-stop.count i.few.0 i.nodes c.requires.nest k.spends
           (i.read from old first) k.tree) c.in_ok-all.ensures.spends (omega arith) (omega arith));
+      ran = λ from old first.
+          let others = set c.loop-stop.nodes c.loop-stop.count c.factor.new.node in
+          let many : length (take (c.loop-stop.count + 1) others) ≡ c.loop-stop.count + 1
+          = omega (arith, length-take (c.loop-stop.count + 1) others, length-set c.loop-stop.nodes c.loop-stop.count c.factor.new.node, i.nodes, i.few) in
+          let put = c.in_ok-all.ensures in
+          factors_last (i.row from old first) k.ran
+          (is_more (length (take (c.loop-stop.count + 1) others)) (c.loop-stop.count + 1) (c.loop-stop.count + 1) many (omega arith) put.asks put.grown put.len put.held) refl;
       text = λ from old first. tt;
     }
 
@@ -228,6 +254,9 @@ factors-loop-stop-preserved-then-count-eq-FEW g t c =
           let b = factor_more _ c.loop-stop.count i.few.0 i.nodes c.requires.nest k.spends (i.read from old first) k.tree in
           read_into (read_on (whole b (four ∙ sym c.if-count-eq-FEW.true)) (reads_star c.requires.nest op)) put.spends put.len
           (put.row _ _);
+      row = λ from old first. factors_four (i.row from old first) k.ran op
+          (is_more (length (set c.loop-stop.nodes c.loop-stop.count c.factor.new.node)) (c.loop-stop.count + 1) 8 (four ∙ sym c.if-count-eq-FEW.true)
+          (omega arith) put.asks put.grown put.len put.held) c.if-count-eq-FEW.true refl;
     }
 
 pub factors-loop-stop-preserved : goal.factors-loop-stop-preserved
@@ -243,6 +272,7 @@ factors-loop-stop-preserved g t c =
       doubled = i.doubled;
       read = λ from old first. read_on (factor_more _ c.loop-stop.count i.few.0 i.nodes c.requires.nest
           k.spends (i.read from old first) k.tree) (reads_star c.requires.nest op);
+      row = λ from old first. factors_more (i.row from old first) k.ran op c.if-count-eq-FEW.false;
     }
 
 -- ---- Expressions
@@ -260,8 +290,12 @@ expr-returns-in-Some g t c =
     record {
       tree = c.terms.ensures.tree c.args.at c.args.a.now first;
       spends = c.terms.ensures.spends c.args.at c.args.a.now first;
+      ran = c.terms.ensures.ran c.args.at c.args.a.now (first_ran {spelled = spell_factors} {asks = factors_asks} k.ran c.in-Some.ensures.some);
       text = c.terms.ensures.text c.args.at c.args.a.now first;
     }
+
+pub expr-returns-in-None-clause-ran : goal.expr-returns-in-None-clause-ran
+expr-returns-in-None-clause-ran g t c = one_term_ran c.in_ok-end.ensures.ran
 
 pub terms-loop-stop-init : goal.terms-loop-stop-init
 terms-loop-stop-init g t c =
@@ -280,6 +314,8 @@ terms-loop-stop-init g t c =
         few = omega (arith, first.long, list.len);
         spends = asks_any (spends_more first.spends (omega arith) (omega (arith, list.len)));
       };
+      row = λ from old first. terms_first c.args.first first
+          (empty_solid c.new_in-list.result.raw.block (ap (λ (b : Block). b.size) list.block)) list.len list.cap;
     }
 
 pub terms-with_more-requires-clause-held : goal.terms-with_more-requires-clause-held
@@ -343,6 +379,13 @@ terms-returns-in_default g t c =
       spends = λ from old first. asks_any (put_all (term_more _ c.loop-stop.count i.few.0 i.nodes c.requires.nest k.spends c.loop-stop.minus _
           (i.read from old first) k.tree c.in_ok-sign.ensures.spends c.in_ok-sign.ensures.tree) c.in_ok-all.ensures.spends (omega arith)
           (omega arith));
+      ran = λ from old first.
+          let others = set (set c.loop-stop.nodes c.loop-stop.count c.term.new.node) c.loop-stop.count c.sign.new.node in
+          let many : length (take (c.loop-stop.count + 1) others) ≡ c.loop-stop.count + 1
+          = omega (arith, length-take (c.loop-stop.count + 1) others, set_twice c.loop-stop.nodes c.loop-stop.count c.term.new.node c.sign.new.node i.nodes, i.few) in
+          let put = c.in_ok-all.ensures in
+          terms_last c.loop-stop.minus (i.row from old first) k.ran _ c.in_ok-sign.ensures.asks
+          (is_more (length (take (c.loop-stop.count + 1) others)) (c.loop-stop.count + 1) (c.loop-stop.count + 1) many (omega arith) put.asks put.grown put.len put.held) refl;
       text = λ from old first. tt;
     }
 
@@ -378,6 +421,9 @@ terms-loop-stop-preserved-then-count-eq-FEW g t c =
           c.in_ok-sign.ensures.spends c.in_ok-sign.ensures.tree in
           read_into (read_on (whole b (four ∙ sym c.if-count-eq-FEW.true)) (reads_sign c.requires.nest c.in-Some.less op)) put.spends
           put.len (put.row _ _);
+      row = λ from old first. terms_four c.loop-stop.minus (i.row from old first) k.ran _ c.in_ok-sign.ensures.asks c.in-Some.less op
+          (is_more (length (set (set c.loop-stop.nodes c.loop-stop.count c.term.new.node) c.loop-stop.count c.sign.new.node)) (c.loop-stop.count + 1) 8
+          (four ∙ sym c.if-count-eq-FEW.true) (omega arith) put.asks put.grown put.len put.held) c.if-count-eq-FEW.true refl;
     }
 
 pub terms-loop-stop-preserved : goal.terms-loop-stop-preserved
@@ -394,4 +440,6 @@ terms-loop-stop-preserved g t c =
       doubled = i.doubled;
       read = λ from old first. read_on (term_more _ c.loop-stop.count i.few.0 i.nodes c.requires.nest k.spends c.loop-stop.minus _
           (i.read from old first) k.tree c.in_ok-sign.ensures.spends c.in_ok-sign.ensures.tree) (reads_sign c.requires.nest c.in-Some.less op);
+      row = λ from old first. terms_more c.loop-stop.minus (i.row from old first) k.ran _ c.in_ok-sign.ensures.asks c.in-Some.less op
+          c.if-count-eq-FEW.false;
     }

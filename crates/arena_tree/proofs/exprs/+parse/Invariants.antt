@@ -3,6 +3,10 @@ use Rattle.arena_chunks.specs.Source.{View}
 use Rattle.arena_vec.specs.Vecs.{IsVecIn}
 use Rattle.arena_tree.specs.TreesAt.{node_item}
 use Rattle.arena_tree.specs.Layouts.{IsDoubled}
+use Rattle.tree_rules.specs.Tokens.{Star}
+use Rattle.tree_rules.specs.Grammar.{spell_factors, spell_terms}
+use Rattle.arena_tree.specs.Parts.{sign_of}
+use Rattle.arena_tree.specs.Asking.{FirstFactorRan, FirstTermRan, RowRead, factors_row, terms_row}
 use Rattle.arena_tree.specs.Spending.{IsFirstFactor, IsFirstTerm, FactorsRead, TermsRead}
 use Rattle.arena_tree.proofs.exprs.+parse.Given as goal
 
@@ -36,6 +40,8 @@ invariant-factors-loop-stop g l = record {
   doubled : IsDoubled 4 l.list.raw.cap;
   read : (from : ℕ) (old : View) → IsFirstFactor l.deep l.src from l.at old l.fn.a l.fn.node
       → FactorsRead l.deep l.src from l.here old l.a l.list (take l.count l.nodes);
+  row : (from : ℕ) (old : View) → FirstFactorRan l.src from l.at old l.fn.a
+      → RowRead spell_factors factors_row Star l.src from l.here old l.a l.list l.count;
 }
 
 abbrev pub decreases-factors-loop-stop : goal.decreases-factors-loop-stop
@@ -50,6 +56,8 @@ invariant-terms-loop-stop g l = record {
   doubled : IsDoubled 4 l.list.raw.cap;
   read : (from : ℕ) (old : View) → IsFirstTerm l.first l.deep l.src from l.at old l.fn.a l.fn.node
       → TermsRead l.minus l.deep l.src from l.here old l.a l.list (take l.count l.nodes);
+  row : (from : ℕ) (old : View) → FirstTermRan l.first l.src from l.at old l.fn.a
+      → RowRead spell_terms terms_row (sign_of l.minus) l.src from l.here old l.a l.list l.count;
 }
 
 abbrev pub decreases-terms-loop-stop : goal.decreases-terms-loop-stop

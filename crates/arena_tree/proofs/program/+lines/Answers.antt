@@ -16,6 +16,8 @@ use Rattle.arena_tree.specs.LineParts.{at_line, line_at}
 use Rattle.tree_nodes.proofs.LinesLemmas.{block_placed}
 use Rattle.tree_nodes.proofs.RowLemmas.{row_none, stmts_built, stmts_more}
 use Rattle.arena_tree.proofs.PartLemmas.{opens_brace, closes_brace, deep_brace, refused_then}
+use Rattle.arena_items.proofs.Layers.{empty_solid}
+use Rattle.arena_tree.proofs.PartRunLemmas.{block_ran, lines_none, lines_more, lines_ran, lines_same}
 use Rattle.arena_tree.proofs.program.+lines.Goals as goal
 
 pub block-returns-clause-tree : goal.block-returns-clause-tree
@@ -76,6 +78,7 @@ lines-loop-list-init g t c =
     record {
       few = omega (arith, list.len);
       doubled = inl list.cap;
+      row = lines_none (empty_solid c.new_in-list.result.raw.block (ap (λ (b : Block). b.size) list.block)) list.len list.cap;
       spends = spends_nothing _ 0 _ c.args.a.now (omega (arith, list.len));
       read = record {
         part = Empty;
@@ -97,6 +100,7 @@ lines-loop-list-preserved g t c =
     record {
       few = omega arith;
       doubled = push.cap i.doubled;
+      row = lines_more i.row k.ran push.asks push.grown push.len push.held;
       spends = asks_any
           (spends_then read push.spends (frees_then i.read.built.frame k.tree.placed.frame) (omega arith) (omega arith) (omega arith));
       read = record {
@@ -143,3 +147,11 @@ lines-returns-in_err-push_node-in-Some-clause-spends g t c =
     (arena_stops _ (asks_of (asked_longer (ALine i.read.part k.tree.part) line i.read.built i.doubled)
     (spends_then read c.in_err-push_node-in-Some.ensures.spends (frees_then i.read.built.frame k.tree.placed.frame) (omega arith)
     (omega arith) (omega arith))))
+
+pub block-returns-clause-ran : goal.block-returns-clause-ran
+block-returns-clause-ran g t c = block_ran c.requires.start c.in_ok-list.ensures.ran c.in-Some.ensures.some
+
+pub lines-returns-in-None-clause-ran : goal.lines-returns-in-None-clause-ran
+lines-returns-in-None-clause-ran g t c =
+    let k = rw c.in-None.is at c.in_ok-line.ensures in
+    lines_ran (lines_same c.loop-list.invariant.row k.ran)

@@ -12,6 +12,7 @@ use Rattle.arena_tree.specs.LineParts.{Depth}
 use Rattle.tree_nodes.proofs.LinesLemmas.{let_node_placed}
 use Rattle.tree_nodes.proofs.RowLemmas.{exprs_built}
 use Rattle.arena_tree.proofs.PartLemmas.{reads_then, reads_in, in_braces, reads_value}
+use Rattle.arena_tree.proofs.PartRunLemmas.{let_ran}
 use Rattle.arena_tree.proofs.program.let_line.Goals as goal
 
 -- the depth at which it begins
@@ -90,3 +91,7 @@ returns-clause-spends g c =
     let end = c.in-Some.ensures.some in
     asks_any (spends_then read c.in_ok-wrap.ensures.spends (frees_then text.frame e.tree.placed.frame) (omega (arith, end.later))
     (omega (arith, end.later)) (omega (arith, end.later)))
+
+pub returns-clause-ran : goal.returns-clause-ran
+returns-clause-ran g c = let_ran (slice_range c.args.src.now c.args.begin c.args.end) c.requires.first.tokens_are c.in_ok-name.ensures.asks
+    c.in_ok-stop.ensures.ran c.in-Some.ensures.some c.in_ok-wrap.ensures.asks

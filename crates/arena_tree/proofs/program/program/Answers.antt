@@ -3,6 +3,7 @@ use Rattle.std.proofs.Common.{arith}
 use Rattle.tree_nodes.proofs.SpendingLemmas.{spends_more}
 use Rattle.arena_tree.proofs.LineLemmas.{ends_all, more_left}
 use Rattle.arena_tree.proofs.PartCostLemmas.{text_stops}
+use Rattle.arena_tree.proofs.PartRunLemmas.{program_ran}
 use Rattle.arena_tree.proofs.program.program.Goals as goal
 
 pub returns-in-None-clause-trees : goal.returns-in-None-clause-trees
@@ -20,3 +21,6 @@ pub returns-in-Some-clause-spends : goal.returns-in-Some-clause-spends
 returns-in-Some-clause-spends g c =
     let k = c.in_ok-list.ensures in
     text_stops k.spends k.trees.0.built.frame (omega (arith, k.trees.0.within))
+
+pub returns-in-None-clause-ran : goal.returns-in-None-clause-ran
+returns-in-None-clause-ran g c = program_ran c.in_ok-list.ensures.ran c.in-None.ensures.none

@@ -8,6 +8,7 @@ use Rattle.arena_tree.specs.Layouts.{ALine}
 use Rattle.tree_nodes.proofs.LinesLemmas.{show_placed}
 use Rattle.tree_nodes.proofs.RowLemmas.{exprs_built}
 use Rattle.arena_tree.proofs.PartLemmas.{in_braces, reads_value}
+use Rattle.arena_tree.proofs.PartRunLemmas.{show_ran}
 use Rattle.arena_tree.proofs.program.show_line.Goals as goal
 
 pub returns : goal.returns
@@ -30,6 +31,7 @@ returns g c =
       };
       spends = asks_any (spends_then e.spends c.in_ok-wrap.ensures.spends (frees e.tree.placed.frame) (omega (arith, end.later))
           (omega (arith, end.later)) (omega (arith, end.later)));
+      ran = show_ran e.ran end c.in_ok-wrap.ensures.asks;
       text = tt;
     }
 
@@ -43,6 +45,7 @@ returns-in_default g c =
     record {
       tree = tt;
       spends = text_stops e.spends e.tree.placed.frame (omega (arith, e.tree.within));
+      ran = tt;
       text = λ p. c.in_default.ensures.none c.args.deep (sym (c.requires.starts c.args.deep ∙ e.tree.same (in_braces c.args.deep)) ∙ p);
     }
 
