@@ -25,6 +25,7 @@ use Rattle.tree_rules.specs.Trees.{Stmts}
 use Rattle.tree_rules.specs.Refusals.{TreeOf}
 use Rattle.tree_rules.specs.Weights.{weights}
 use Rattle.arena_tree.specs.Given.{IsTreeIn, Means}
+use Rattle.arena_tree.specs.Asking.{ProgramRan}
 use Rattle.arena_tree.specs.Parsing.{ParsesInOnePass, TakesAtMost, IsProgramText, parse_bytes}
 use Rattle.arena_tree.specs.StmtsAt.{stmts_blocks}
 use Rattle.arena_tree.specs.TreesAt.{node_item}
@@ -148,8 +149,8 @@ abbrev Asks : View → View → Tree → Option AllocError → Type 0
 Asks old new t error = (trees : Stmts) → Means old.memory t trees → WalksFrom trees old new error
 
 placed : {bytes : List ℕ} {old mid : View} {t : Tree} (parsed : ParsesInOnePass bytes old mid (Ok t))
-    → TakesAtMost (parse_bytes (length bytes)) old mid → PlacesTree bytes parsed.0 old mid
-placed parsed takes = record { tree = parsed.1; takes = takes.takes }
+    → ProgramRan bytes old mid → TakesAtMost (parse_bytes (length bytes)) old mid → PlacesTree bytes parsed.0 old mid
+placed parsed ran takes = record { tree = parsed.1; ran = ran; takes = takes.takes }
 
 -- A program that was walked over.
 module _ {bytes : List ℕ} {old mid new : View} (t : Tree) (light : AreLight) (unused : used old ≡ 0) (parsed : ParsesInOnePass bytes old mid (Ok t))
@@ -160,15 +161,15 @@ module _ {bytes : List ℕ} {old mid new : View} (t : Tree) (light : AreLight) (
       spends_then (parse_spends {all = parse_bytes (length bytes)} (omega arith) takes) (walks parsed.0 parsed.2.stand)
       (omega (arith, few)) (omega (arith, few))
 
-  pub checked : {F : Type 0} (taking : Taking F) {first found : F}
+  pub checked : {F : Type 0} (taking : Taking F) {first found : F} → ProgramRan bytes old mid
       → ((trees : Stmts) → Means mid.memory t trees → taking.gains first found (findings_of trees)) → Walks mid new t None
       → Asks mid new t None → Checks taking bytes old new first found
-  checked taking gained walks asks =
+  checked taking ran gained walks asks =
       let from = asks parsed.0 parsed.2.stand in
       let over : WalksOver bytes old new = record {
         trees = parsed.0;
         mid = mid;
-        tree = placed parsed takes;
+        tree = placed parsed ran takes;
         first = from.first;
         last = from.last;
         none = from.none;
@@ -176,16 +177,16 @@ module _ {bytes : List ℕ} {old mid new : View} (t : Tree) (light : AreLight) (
       } in
       grind (arith, nat_tests, lints, all_spends, over)
 
-  pub unplaced : (k : ℕ) → Walks mid new t (Some (alloc.AllocErr k))
+  pub unplaced : (k : ℕ) → ProgramRan bytes old mid → Walks mid new t (Some (alloc.AllocErr k))
       → Asks mid new t (Some (alloc.AllocErr k)) → Lints bytes old new (no_place new.memory.state.is_growing)
-  unplaced k walks asks =
+  unplaced k ran walks asks =
       let spent = all_spends walks in
       let from = asks parsed.0 parsed.2.stand in
       lints_unplaced unused spent new.memory.state.is_growing refl (parsed.0, parsed.1)
       (inr (record {
         trees = parsed.0;
         mid = mid;
-        tree = placed parsed takes;
+        tree = placed parsed ran takes;
         first = from.first;
         none = from.none;
         refusals = k;

@@ -8,6 +8,7 @@ use Rattle.arena_items.specs.Denied.{IsDenied}
 use Rattle.arena_rules.specs.Asking.{IsStarvedWithin}
 use Rattle.arena_symbols.specs.Named.{AreNewNames}
 use Rattle.arena_symbols.specs.declared.names.Names.{Names as Known}
+use Rattle.arena_tree.specs.Asking.{ProgramRan}
 use Rattle.arena_tree.specs.Layouts.{AskedFor}
 use Rattle.arena_tree.specs.Parsing.{IsProgramText, parse_bytes}
 use Rattle.arena_tree.specs.Spending.{KeepsKind}
@@ -31,9 +32,10 @@ pub record StopsInTree (bytes : List ℕ) (old new : View) : Type 0 where
   pub denied : IsDenied (AskedFor bytes) new
   pub takes : used new ≤ used old + parse_bytes (length bytes)
 
--- The text's tree is placed.
+-- The text's tree is placed, in just the blocks that it asks for, one after another.
 pub record PlacesTree (bytes : List ℕ) (trees : Stmts) (old new : View) : Type 0 where
   pub tree : TreeOf bytes (Ok trees)
+  pub ran : ProgramRan bytes old new
   pub takes : used new ≤ used old + parse_bytes (length bytes)
 
 -- Its tree is placed, and a walk over the statements, from no names, has the blocks that it asks for.

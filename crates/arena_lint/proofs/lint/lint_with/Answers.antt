@@ -16,12 +16,13 @@ returns-in-Err-clause-other g c =
 pub returns-in-Ok-give_findings-clause-checked : goal.returns-in-Ok-give_findings-clause-checked
 returns-in-Ok-give_findings-clause-checked g c =
     checked c.in-Ok.tree c.tree_weight.ensures c.requires.unused c.in-Ok.ensures.parses c.in-Ok.ensures.bytes g.F.TakesFindings.taking
+    c.in-Ok.ensures.asks
     (λ trees means. c.in-Ok-give_findings.ensures.gains trees means) (λ trees means. c.in-Ok-give_findings.ensures.spends trees means)
     (λ trees means. c.in-Ok-give_findings.ensures.asks trees means)
 
 pub returns-in-Err-AllocErr-clause-other : goal.returns-in-Err-AllocErr-clause-other
 returns-in-Err-AllocErr-clause-other g c = rw c.no_place.ensures (unplaced c.in-Ok.tree c.tree_weight.ensures c.requires.unused c.in-Ok.ensures.parses
-    c.in-Ok.ensures.bytes c.in-Err-AllocErr.field-0-0
+    c.in-Ok.ensures.bytes c.in-Err-AllocErr.field-0-0 c.in-Ok.ensures.asks
     (λ trees means. rw c.in-Err-AllocErr.field-0-is at (c.in-Err-AllocErr.ensures.spends trees means))
     (λ trees means. rw c.in-Err-AllocErr.field-0-is at (c.in-Err-AllocErr.ensures.asks trees means)))
 
