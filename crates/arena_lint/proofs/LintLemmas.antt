@@ -153,8 +153,8 @@ placed : {bytes : List ℕ} {old mid : View} {t : Tree} (parsed : ParsesInOnePas
 placed parsed ran takes = record { tree = parsed.1; ran = ran; takes = takes.takes }
 
 -- A program that was walked over.
-module _ {bytes : List ℕ} {old mid new : View} (t : Tree) (light : AreLight) (unused : used old ≡ 0) (parsed : ParsesInOnePass bytes old mid (Ok t))
-    (takes : TakesAtMost (parse_bytes (length bytes)) old mid) where
+module _ {bytes : List ℕ} {old mid new : View} (t : Tree) (light : AreLight) (unused : used old ≡ 0)
+    (parsed : ParsesInOnePass bytes old mid (Ok t)) (takes : TakesAtMost (parse_bytes (length bytes)) old mid) where
   all_spends : {error : Option AllocError} → Walks mid new t error
       → Spends (lint_bytes (length bytes)) 0 0 old new error
   all_spends walks = let few = light bytes parsed.0 parsed.1 in

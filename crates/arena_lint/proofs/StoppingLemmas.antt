@@ -125,7 +125,12 @@ module _ {old mid new : View} {k : Known} {t : Symbols} {d : Scopes} {name : Lis
     did = λ never. absurd (cc);
     stopped = λ n is. (
       record { symbols = t; scopes = d },
-      inr (mid, id, numbered d held interns, refused_as (λ answer. IsPairDenied entry_item mid new k.scopes d id answer) e n is puts.denied),
+      inr (
+        mid,
+        id,
+        numbered d held interns,
+        refused_as (λ answer. IsPairDenied entry_item mid new k.scopes d id answer) e n is puts.denied,
+      ),
     );
   }
 
@@ -156,18 +161,21 @@ has_one [] one = refl
 has_one (s ∷ []) one = refl
 has_one (s ∷ t ∷ outer) one = absurd (omega (arith, one))
 
+-- the outer scopes, if there are any
+abbrev outer_if : Bool → Maps → Maps
+outer_if outer scopes = if outer then outer_of scopes else scopes
+
 ended_state : {old new : View} (k : Known) {d : Scopes} (result : Bool) → Leaves entry_item old new k.scopes d result
     → scopes_in entry_item new.memory d
-    ≡ (if has_outer (scopes_in entry_item old.memory k.scopes) then outer_of (scopes_in entry_item old.memory k.scopes)
-    else scopes_in entry_item old.memory k.scopes)
-ended_state {old} k true leaves = leaves.left refl
-    ∙ sym (ap (λ (b : Bool). if b then outer_of (scopes_in entry_item old.memory k.scopes) else scopes_in entry_item old.memory k.scopes)
-    (has_two (scopes_in entry_item old.memory k.scopes) (leaves.more refl)))
+    ≡ outer_if (has_outer (scopes_in entry_item old.memory k.scopes)) (scopes_in entry_item old.memory k.scopes)
+ended_state {old} k true leaves =
+    let scopes = scopes_in entry_item old.memory k.scopes in
+    leaves.left refl ∙ sym (ap (λ (b : Bool). outer_if b scopes) (has_two scopes (leaves.more refl)))
 ended_state {old} {new} k {d} false leaves =
+    let scopes = scopes_in entry_item old.memory k.scopes in
     let alone = leaves.alone refl in
-    let same : scopes_in entry_item new.memory d ≡ scopes_in entry_item old.memory k.scopes = rw (alone.1, alone.2) refl in
-    same ∙ sym (ap (λ (b : Bool). if b then outer_of (scopes_in entry_item old.memory k.scopes) else scopes_in entry_item old.memory k.scopes)
-    (has_one (scopes_in entry_item old.memory k.scopes) alone.0))
+    let same : scopes_in entry_item new.memory d ≡ scopes = rw (alone.1, alone.2) refl in
+    same ∙ sym (ap (λ (b : Bool). outer_if b scopes) (has_one scopes alone.0))
 
 pub ended_goes : {old new : View} {k : Known} {d : Scopes} (result : Bool) → AreNames old.memory k
     → Leaves entry_item old new k.scopes d result → EndsBlock old k new (record k { scopes = d })
@@ -208,7 +216,8 @@ show_goes (Show e) n at no-let no-block exhausted =
 pub goes_from : (ss : Stmts) (a : View) (k : Known) → GoesOn ss ss a a k k
 goes_from ss a k = record { did = λ new j all. all; stopped = λ new answer stops. stops }
 
-module _ {ss left rest : Stmts} {s : Stmt} {old now new : View} {k l j : Known} (is : left ≡ Then s rest) (on : GoesOn ss left old now k l) where
+module _ {ss left rest : Stmts} {s : Stmt} {old now new : View} {k l j : Known} (is : left ≡ Then s rest)
+    (on : GoesOn ss left old now k l) where
   pub goes_next : Goes (Does s) (StopsAt s) now new l j None → GoesOn ss rest old new k j
   goes_next goes = record {
     did = λ v i all. on.did v i (subst (λ (t : Stmts). DoesAll t now l v i) (sym is) (new, j, goes.did refl, all));

@@ -1,9 +1,8 @@
 -- What a list and a map ask for to get one more entry.
 use Rattle.std.proofs.lemmas.Bool.Decides.{nat_tests}
-use Rattle.std.proofs.Common.{arith, ◌≡◌, ◌≢◌, ℕ, ◌+◌, ◌*◌, ◌<◌, ◌≤◌, List, Option, Bool, Ok, Err, subst}
+use Rattle.std.proofs.Common.{arith, ◌≡◌, ◌≢◌, ◌+◌, ◌<◌, ◌≤◌, List, Option, Bool, Ok, Err, subst}
 use Rattle.std.proofs.Math.Nat.{mul-le-mul_left}
 use Rattle.arena_chunks.specs.Source.{View}
-use Rattle.arena_store.specs.declared.block.Block.{Block}
 use Rattle.arena_items.specs.Asks.{solid, Asked, TakesBlock, refusal}
 use Rattle.arena_items.specs.declared.item.Item.{Ghosts}
 use Rattle.arena_items.specs.declared.room.AllocError.{AllocError}

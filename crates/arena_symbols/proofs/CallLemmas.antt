@@ -70,7 +70,8 @@ module _ {X : Type 0} {old new : View} {n m : Names} {call : Call} where
       → ((Changes (state_in old.memory n) call → ⊥) → (new ≡ old) × (m ≡ n))
       → Pays far_up (bytes_for call) (all_credit n) (all_credit m) old new result → Serves old new n m call (told f result)
   serves_told f result moved says goes stays adds full took denied still pays =
-      whole result moved says goes stays full took denied still (may_answer (state_in old.memory n) call result adds full.0) (pays_told f result pays)
+      whole result moved says goes stays full took denied still
+      (may_answer (state_in old.memory n) call result adds full.0) (pays_told f result pays)
     where
       whole : (result : Result X AllocError) → Moves old.memory new.memory n m
           → IfOk result (λ x. f x ≡ answer (state_in old.memory n) call)
@@ -110,8 +111,8 @@ module _ {old new : View} {n : Names} (held : AreNames old.memory n) where
   serves_define {u = u} {id = id} {value = value} {result = result} defines =
       let moved = scopes_moved held u defines.held defines.frame in
       serves_told {call = Define id value} (λ b. Said b) result moved.0 (grind (arith, defines.says))
-      (grind (arith, moved.1, defines.says, defines.scopes)) (grind (arith, defines.kept, moved.1)) defines.fresh defines.overflows defines.took defines.denied
-      (λ none. grind (arith, none, defines.says, defines.fresh, defines.same))
+      (grind (arith, moved.1, defines.says, defines.scopes)) (grind (arith, defines.kept, moved.1)) defines.fresh
+      defines.overflows defines.took defines.denied (λ none. grind (arith, none, defines.says, defines.fresh, defines.same))
       (pays_more (names_credit n.symbols) (omega arith) (omega arith) (omega arith) (omega arith) defines.pays)
 
   pub serves_leave : {u : Scopes} {b : Bool} → Leaves entry_item old new n.scopes u b

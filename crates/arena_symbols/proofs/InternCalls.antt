@@ -25,7 +25,7 @@ use Rattle.arena_hash.specs.declared.map.HashMap.{HashMap}
 use Rattle.arena_vec.specs.declared.vec.Vec.{Vec}
 use Rattle.arena_symbols.specs.Asks.{TakesBoth, IsBothDenied}
 use Rattle.arena_symbols.specs.Interner.{number_of, most_texts}
-use Rattle.arena_symbols.specs.Interning.{KeepsTexts, PlacesText, TakesText, IsTextDenied, Interns}
+use Rattle.arena_symbols.specs.Interning.{KeepsTexts, TakesText, IsTextDenied, Interns}
 use Rattle.arena_symbols.specs.Listing.{CanList, Lists}
 use Rattle.arena_symbols.specs.Names.{name_kind, blocks_of, contents_of, texts_in, names_in, own_blocks, names_footprint, names_credit, IsInternerIn}
 use Rattle.arena_symbols.specs.Paying.{Pays, far_up}

@@ -1,7 +1,7 @@
 -- An interner and a scoped table in one arena.
 use Rattle.std.proofs.lemmas.Bool.Decides.{nat_tests}
 use Rattle.std.proofs.Common.{◌≡◌, ℕ, List, [], ◌∷◌, ◌++◌, refl, sym, ap, ◌∙◌, inl, inr, Some, Ok, Err, Bool, true, false, ◌≢◌, ◌<◌, ◌≤◌, length, arith, None, ◌+◌, ◌-◌, ◌^◌}
-use Rattle.std.specs.Prelude.{if◌then◌else◌, not, Result, IfOk, IfErr, OnOk, ◌↔◌, ◌⊎◌}
+use Rattle.std.specs.Prelude.{if◌then◌else◌, not, Result, IfOk, IfErr, OnOk, ◌↔◌}
 use Rattle.std.proofs.lemmas.Result.{IfOk-weaker}
 use Rattle.arena_rules.proofs.AskingLemmas.{asks_more}
 use Rattle.arena_chunks.specs.Memory.{Memory}
@@ -13,7 +13,7 @@ use Rattle.arena_items.specs.Asks.{refusal}
 use Rattle.arena_items.specs.Costs.{Costs}
 use Rattle.arena_items.specs.Room.{SamePlaces}
 use Rattle.arena_items.specs.declared.room.AllocError.{AllocError}
-use Rattle.arena_items.specs.declared.room.AllocError.TheVariants.{AllocErr, CapacityOverflow}
+use Rattle.arena_items.specs.declared.room.AllocError.TheVariants.{CapacityOverflow}
 use Rattle.arena_items.proofs.Layers.{stays_readable, stays_agree, stays_apart, costs_weaken, costs_ok, costs_then}
 use Rattle.arena_symbols.specs.Interner.{number_of, most_texts}
 use Rattle.arena_symbols.specs.Interning.{Interns}

@@ -11,7 +11,8 @@ give_findings-requires g c =
 pub returns-in-Err-clause-other : goal.returns-in-Err-clause-other
 returns-in-Err-clause-other g c =
     rw c.unparsed.ensures
-    (unparsed c.requires.unused (parse_spends (omega arith) c.in-Err.ensures.bytes) c.in-Err.why c.in-Err.ensures.parses c.in-Err.ensures.bytes)
+    (unparsed c.requires.unused (parse_spends (omega arith) c.in-Err.ensures.bytes) c.in-Err.why c.in-Err.ensures.parses
+    c.in-Err.ensures.bytes)
 
 pub returns-in-Ok-give_findings-clause-checked : goal.returns-in-Ok-give_findings-clause-checked
 returns-in-Ok-give_findings-clause-checked g c =
@@ -21,13 +22,15 @@ returns-in-Ok-give_findings-clause-checked g c =
     (λ trees means. c.in-Ok-give_findings.ensures.asks trees means)
 
 pub returns-in-Err-AllocErr-clause-other : goal.returns-in-Err-AllocErr-clause-other
-returns-in-Err-AllocErr-clause-other g c = rw c.no_place.ensures (unplaced c.in-Ok.tree c.tree_weight.ensures c.requires.unused c.in-Ok.ensures.parses
-    c.in-Ok.ensures.bytes c.in-Err-AllocErr.field-0-0 c.in-Ok.ensures.asks
+returns-in-Err-AllocErr-clause-other g c =
+    rw c.no_place.ensures (unplaced c.in-Ok.tree c.tree_weight.ensures c.requires.unused c.in-Ok.ensures.parses c.in-Ok.ensures.bytes
+    c.in-Err-AllocErr.field-0-0 c.in-Ok.ensures.asks
     (λ trees means. rw c.in-Err-AllocErr.field-0-is at (c.in-Err-AllocErr.ensures.spends trees means))
     (λ trees means. rw c.in-Err-AllocErr.field-0-is at (c.in-Err-AllocErr.ensures.asks trees means)))
 
 pub returns-in-Err-OutOfMemory-clause-other : goal.returns-in-Err-OutOfMemory-clause-other
-returns-in-Err-OutOfMemory-clause-other g c = exhausted c.in-Ok.tree c.tree_weight.ensures c.requires.unused c.in-Ok.ensures.parses c.in-Ok.ensures.bytes
+returns-in-Err-OutOfMemory-clause-other g c =
+    exhausted c.in-Ok.tree c.tree_weight.ensures c.requires.unused c.in-Ok.ensures.parses c.in-Ok.ensures.bytes
     (λ trees means. rw c.in-Err-OutOfMemory.field-0-is at (c.in-Err-OutOfMemory.ensures.spends trees means))
 
 pub unreachable-requires : goal.unreachable-requires

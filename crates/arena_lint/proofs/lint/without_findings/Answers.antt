@@ -10,4 +10,5 @@ returns-in-Ok g c = exhausted c.in-Ok.field-0 c.tree_weight.ensures c.requires.u
 pub returns-in-Err : goal.returns-in-Err
 returns-in-Err g c =
     rw c.unparsed.ensures
-    (unparsed c.requires.unused (parse_spends (omega arith) c.in-Err.ensures.bytes) c.in-Err.why c.in-Err.ensures.parses c.in-Err.ensures.bytes)
+    (unparsed c.requires.unused (parse_spends (omega arith) c.in-Err.ensures.bytes) c.in-Err.why c.in-Err.ensures.parses
+    c.in-Err.ensures.bytes)
