@@ -7,6 +7,8 @@ pub use Rattle.arena_rules.specs.Statistics
 pub use Rattle.arena_rules.specs.Used
 pub use Rattle.arena_rules.specs.Doubling
 pub use Rattle.arena_rules.specs.Back
+pub use Rattle.arena_rules.specs.Creation
+pub use Rattle.arena_rules.specs.Lists
 pub use Rattle.arena_chunks.specs.Memory
 pub use Rattle.arena_chunks.specs.Source
 pub use Rattle.arena_chunks.specs.Frame
@@ -14,6 +16,10 @@ pub use Rattle.arena_chunks.specs.Answers
 pub use Rattle.arena_chunks.specs.BlockCalls
 pub use Rattle.arena_chunks.specs.Resizes
 pub use Rattle.arena_chunks.specs.Finding
+pub use Rattle.arena_chunks.specs.Walks as ChunkWalks
+pub use Rattle.arena_chunks.specs.AllocatorLends
+pub use Rattle.arena_chunks.specs.Lends
+pub use Rattle.arena_chunks.specs.Messages as BlockMessages
 pub use Rattle.arena_chunks.specs.Checkpoints
 pub use Rattle.arena_chunks.specs.Creating
 pub use Rattle.arena_chunks.specs.Asking as Requests
@@ -25,6 +31,8 @@ pub use Rattle.arena_items.specs.LayoutLaws
 pub use Rattle.arena_items.specs.NumberForms
 pub use Rattle.arena_items.specs.FormLaws
 pub use Rattle.arena_items.specs.NumberLaws
+pub use Rattle.arena_items.specs.NonZeroForms
+pub use Rattle.arena_items.specs.NonZeroLaws
 pub use Rattle.arena_items.specs.OptionLaws
 pub use Rattle.arena_items.specs.PairLaws
 pub use Rattle.arena_items.specs.HandleLaws
@@ -37,11 +45,14 @@ pub use Rattle.arena_items.specs.Denied
 pub use Rattle.arena_items.specs.Footprint
 pub use Rattle.arena_items.specs.FootprintLaws
 pub use Rattle.arena_items.specs.FrameLaw
+pub use Rattle.arena_items.specs.Messages as ItemMessages
 pub use Rattle.arena_vec.specs.Growth as VecGrowth
 pub use Rattle.arena_vec.specs.Held
 pub use Rattle.arena_vec.specs.Storage
+pub use Rattle.arena_vec.specs.Rows as VecRows
 pub use Rattle.arena_vec.specs.Vecs
 pub use Rattle.arena_vec.specs.Changes as VecChanges
+pub use Rattle.arena_vec.specs.Calling
 pub use Rattle.arena_vec.specs.Credit
 pub use Rattle.arena_vec.specs.Extending
 pub use Rattle.arena_vec.specs.Draining
@@ -53,9 +64,14 @@ pub use Rattle.arena_text.specs.Builders
 pub use Rattle.arena_text.specs.Changes as TextChanges
 pub use Rattle.arena_bits.specs.Bits
 pub use Rattle.arena_bits.specs.Sets as BitSets
+pub use Rattle.arena_bits.specs.Walks as BitWalks
+pub use Rattle.arena_bits.specs.Printed as BitTexts
 pub use Rattle.arena_hash.specs.Fx
 pub use Rattle.arena_hash.specs.Finite
 pub use Rattle.arena_hash.specs.Contents
+pub use Rattle.arena_hash.specs.Hashes
+pub use Rattle.arena_hash.specs.Walks as MapWalks
+pub use Rattle.arena_hash.specs.MapLists
 pub use Rattle.arena_hash.specs.Policy
 pub use Rattle.arena_hash.specs.Maps
 pub use Rattle.arena_hash.specs.Accounts
@@ -74,6 +90,7 @@ pub use Rattle.arena_clone.specs.EitherKind
 pub use Rattle.arena_clone.specs.EitherLaws
 pub use Rattle.arena_clone.specs.Alike
 pub use Rattle.arena_clone.specs.Origins
+pub use Rattle.arena_clone.specs.Placing as CopyPlacing
 pub use Rattle.arena_clone.specs.MapKind
 pub use Rattle.arena_clone.specs.KeyLaws
 pub use Rattle.arena_clone.specs.MapLaws

@@ -16,6 +16,7 @@ mod told;
 mod whole;
 
 pub use budget::{BudgetedMaker, program_maker};
+pub use parsing::parse_on_workers;
 pub use program::run_program;
 pub use tasks::{Lender, Task};
 pub use whole::arena_main;

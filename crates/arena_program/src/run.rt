@@ -11,6 +11,7 @@ use crate::tasks::Task;
 use arena_calls::{Input, Output, ReadErr, Status, read_all};
 use arena_pool::ChunkMaker;
 use arena_script::Job;
+use arena_workers::NoGate;
 use script_lines::{LinesErr, laws};
 use script_workers::Starved;
 use std::alloc::Global;
@@ -49,7 +50,7 @@ pub fn run_lines_of_scripts<
         Err(ReadErr::TooLong) => return Status::InputTooLong,
         Err(ReadErr::OutOfMemory) => return Status::OutOfMemory,
     };
-    let scripts = match parse_on_workers(rt, alloc, task.workers, bytes.as_slice()) {
+    let scripts = match parse_on_workers(rt, alloc, &NoGate, 0, task.workers, bytes.as_slice()) {
         Ok(scripts) => scripts,
         Err(LinesErr::BadLine(n)) => return Status::BadLine(n),
         Err(LinesErr::OutOfMemory) => return Status::OutOfMemory,

@@ -2,9 +2,11 @@
 use arena_calls::{Budgeted, Input, Output, Status, program_chunks};
 use arena_chunks::{Arena, Bytes, ChunkSource};
 use arena_pool::ChunkMaker;
-use arena_program::{BudgetedMaker, arena_main, program_maker, run_program};
+use arena_program::{BudgetedMaker, arena_main, parse_on_workers, program_maker, run_program};
 use arena_script::Job;
-use script_workers::Starved;
+use script_lines::LinesErr;
+use script_rules::Script;
+use script_workers::{Gate, Starved};
 use std::alloc::Global;
 use std::env::Args;
 use std::io;
@@ -59,4 +61,15 @@ fn each<K: BudgetedMaker>(maker: &K) -> u64 {
 fn budgets(alloc: Global) {
     let _: u64 = left(&program_chunks(alloc));
     let _: u64 = each(&program_maker(alloc));
+}
+
+fn parsed<R: Threads + Sync, G: Gate + Sync>(
+    rt: &R,
+    alloc: Global,
+    gate: &G,
+    first: u32,
+    workers: u32,
+    bytes: &[u8],
+) -> Result<Vec<Script>, LinesErr> {
+    parse_on_workers(rt, alloc, gate, first, workers, bytes)
 }

@@ -1,7 +1,11 @@
 // Tests of inputs that are long enough to be parsed on several workers.
 use super::{asks, ends_so};
+use arena_program::parse_on_workers;
+use arena_workers::Gate;
 use std::alloc::Global;
+use std::sync::atomic::{AtomicU64, Ordering};
 use std::test::Fail;
+use std::thread;
 
 // A script of three lines, and how often the input has it.
 const SCRIPT: &str = "script\nvalue 0 1\nload 0\n";
@@ -71,6 +75,51 @@ fn refused_lines_of_long_inputs(rt: HostRuntime) -> Result<(), Fail> {
         let words = ["scripts", workers];
         let asked = asks(&words, text.as_slice());
         ends_so(&rt, &asked, (2, *number, b""), workers)?;
+    }
+    Ok(())
+}
+
+/// How often a part checks whether all others have begun.
+const TURNS: u32 = 1_000_000;
+
+/// Holds each part until as many as there are workers have begun, and counts those that saw it.
+#[derive(Drop, Default)]
+struct AllBegun {
+    workers: u64,
+    begun: AtomicU64,
+    seen: AtomicU64,
+}
+
+impl Gate for AllBegun {
+    fn started(&self, _piece: u32) {
+        self.begun.fetch_add(1, Ordering::SeqCst);
+        for _ in 0..TURNS {
+            if self.begun.load(Ordering::SeqCst) == self.workers {
+                self.seen.fetch_add(1, Ordering::SeqCst);
+                return;
+            }
+            thread::yield_now();
+        }
+    }
+
+    fn finished(&self, _piece: u32) {}
+}
+
+// A ninth of three inputs is long enough for a worker.
+#[test]
+fn workers_parse_at_once(rt: HostRuntime) -> Result<(), Fail> {
+    let mut text = Vec::new(rt.alloc());
+    for _ in 0..3 {
+        text.extend_from_slice(input(rt.alloc(), &[])?.as_slice())?;
+    }
+    for workers in [2, 3, 9] {
+        let gate = AllBegun {
+            workers: u64::from(workers),
+            ..Default::default()
+        };
+        let scripts = parse_on_workers(&rt, rt.alloc(), &gate, 0, workers, text.as_slice());
+        assert!(rt; scripts.is_ok_and(|all| all.len() == 3 * COUNT));
+        assert!(rt; gate.seen.load(Ordering::SeqCst) == u64::from(workers));
     }
     Ok(())
 }

@@ -28,10 +28,10 @@ impl Hints {
         }
     }
 
-    // The iterator of numbers from 1, which counts the items that are taken.
-    pub(super) fn counting<'a>(&self, taken: &'a mut u64) -> Counting<'a> {
+    // The iterator of numbers from `first`, which counts the items that are taken.
+    pub(super) fn counting<'a>(&self, first: u32, taken: &'a mut u64) -> Counting<'a> {
         Counting {
-            numbers: self.numbers(1),
+            numbers: self.numbers(first),
             taken,
         }
     }

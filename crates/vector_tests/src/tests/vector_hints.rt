@@ -21,6 +21,9 @@ const BEHIND_A_LIST: &[Row] = &[
     // The upper bound isn't used.
     (&[9, 9], 0, Hints::AtMost(100, 1), &[9, 9, 1], 4),
     (&[9, 9], 0, Hints::AtLeast(100, 1), &[9, 9, 1], 103),
+    // The lower bound is, without storage too, and however great it is, if it fits.
+    (&[], 0, Hints::AtLeast(100, 1), &[1], 101),
+    (&[9, 9], 0, Hints::AtLeast(200, 1), &[9, 9, 1], 203),
     // A lower bound that doesn't fit is ignored.
     (&[9], 0, Hints::AtLeast(usize::MAX, 2), &[9, 1, 2], 4),
 ];
@@ -39,7 +42,7 @@ fn takes(rt: &impl Abort, alloc: Global, bytes: usize, row: &Row, wanted: (Grown
     let mut vec = vec_of(rt, &mut a, list);
     vec.reserve_exact(&mut a, *room).expect(rt, "room");
     let mut taken = 0;
-    let answer = vec.extend(&mut a, hints.counting(&mut taken));
+    let answer = vec.extend(&mut a, hints.counting(1, &mut taken));
     is_list(rt, &a, vec, then);
     let items = then.len().saturating_sub(list.len()) as u64;
     same_at(rt, *then, (answer, taken.saturating_sub(items)), wanted);

@@ -26,8 +26,10 @@ enum New {
 fn make(a: &mut Memory, new: &New, taken: &mut u64) -> Grown<Vec<u32>> {
     match new {
         New::Room(cap) => Vec::with_capacity_in(*cap, a),
-        New::Items(hints) => Vec::from_iter_in(hints.counting(taken), a),
-        New::InRoom(room, hints) => { Vec::from_iter_with_room_in(hints.counting(taken), *room, a) }
+        New::Items(hints) => Vec::from_iter_in(hints.counting(1, taken), a),
+        New::InRoom(room, hints) => {
+            Vec::from_iter_with_room_in(hints.counting(1, taken), *room, a)
+        }
     }
 }
 
@@ -38,7 +40,9 @@ const NEW_VECTORS: &[(New, &[u32], u32, u64)] = &[
     (New::Items(Exactly(3)), &[1, 2, 3], 3, 12),
     (New::Items(Exactly(0)), &[], 0, 0),
     (New::Items(AtMost(10, 3)), &[1, 2, 3], 10, 40),
+    (New::Items(AtMost(200, 3)), &[1, 2, 3], 200, 800),
     (New::Items(AtLeast(5, 3)), &[1, 2, 3], 5, 20),
+    (New::Items(AtLeast(150, 3)), &[1, 2, 3], 150, 600),
     // There is no room for the third item, and the hint announces two more.
     (New::Items(AtLeast(2, 5)), &[1, 2, 3, 4, 5], 5, 20),
     // Too many to make room for.

@@ -1,8 +1,9 @@
 // Tests of texts, each of which is linted alone in an arena.
 use super::super::reports::reported;
-use super::super::{Rt, ample, fixed, same_at};
+use super::super::{Rt, ample, fixed, same_at, text_of};
 use arena_chunks::{Allocator, MemoryChunks};
 use arena_lint::{lint_one, lint_text};
+use std::str;
 
 // Texts, and the lines of their reports as those of source 0.
 const TEXTS: &[(&str, &str)] = &[
@@ -77,4 +78,34 @@ fn full_below_992_bytes(rt: HostRuntime) {
         let mut a = fixed(&rt, bytes);
         linted(&rt, &mut a, "let x = a*(b+1-c);", wanted);
     }
+}
+
+// Names of 200 bytes, of which two differ in the last one.
+#[test]
+fn long_names(rt: HostRuntime) {
+    let text = text_of(
+        &rt,
+        &[
+            (b"let ", 1),
+            (b"abcdefghij", 20),
+            (b" = ", 1),
+            (b"abcdefghij", 19),
+            (b"abcdefghik; { let ", 1),
+            (b"abcdefghij", 20),
+            (b" = 1; }", 1),
+        ],
+    );
+    let lines = text_of(
+        &rt,
+        &[
+            (b"source 0\nundefined ", 1),
+            (b"abcdefghij", 19),
+            (b"abcdefghik\nshadowed ", 1),
+            (b"abcdefghij", 20),
+            (b"\n", 1),
+        ],
+    );
+    let text = str::from_utf8(text.as_slice()).ok().expect(&rt, "a text");
+    let lines = str::from_utf8(lines.as_slice()).ok().expect(&rt, "a text");
+    linted(&rt, &mut ample(&rt), text, lines);
 }

@@ -29,6 +29,13 @@ fn printed(rt: HostRuntime) {
     }
 }
 
+#[test]
+fn a_name_of_200_bytes_printed(rt: HostRuntime) {
+    let src = text_of(&rt, &[(b"abcdefghij", 20), (b";\n", 1)]);
+    let out = shown(&rt, src.as_slice());
+    same_at(&rt, src.as_slice(), out.as_slice(), src.as_slice());
+}
+
 /// A text in parts, and why it has no tree.
 type Refusal = (Parts<'static>, TreeErr);
 

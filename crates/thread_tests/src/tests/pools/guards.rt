@@ -80,6 +80,19 @@ const BORROWS: &[(Plan, &[Borrow])] = &[
             (Some(0), 64, None, true, (1, 0, 1, 0), (1, 0, 0, 1)),
         ],
     ),
+    // As many arenas as asked for.
+    (
+        (PoolKind::Standard, None, 9),
+        &[(None, 0, None, false, (9, 8, 1, 0), (9, 9, 0, 0))],
+    ),
+    (
+        (PoolKind::Standard, Some(16320), 9),
+        &[(None, 0, None, false, (9, 8, 1, 0), (9, 9, 0, 0))],
+    ),
+    (
+        (SMALL, None, 9),
+        &[(Some(8), 64, None, false, (9, 8, 1, 0), (9, 9, 0, 0))],
+    ),
     // A pool without an arena makes one.
     (
         (PoolKind::Standard, None, 0),

@@ -76,7 +76,7 @@ fn loans_of<L: PoolName + Send + Sync>(rt: &impl Rt, arenas: u32, bytes: u64, bl
     let pool = Fixed::<L>::new(alloc, arenas, bytes, maker, blank);
     let pool = pool.ok().expect(rt, "a pool");
     are_made(rt, &made, arenas);
-    if arenas == 3 {
+    if arenas >= 3 {
         three_are_lent(rt, &pool);
     }
     are_values(rt, all_through_fixed(rt, alloc, &pool, &VALUES));
@@ -112,16 +112,16 @@ fn loans_without_end<L: PoolName + Send + Sync>(rt: &impl Rt, arenas: u32, blank
     holds(rt, through_standard(rt, &pool, 9u32) == Some(9), "a nine");
     first_is_lost(rt, &pool);
     next_is_new(rt, &pool);
-    are_made(rt, &made, 2);
+    are_made(rt, &made, arenas.max(2));
     are_values(rt, all_through_standard(rt, alloc, &pool, &VALUES));
 }
 
 #[test]
 fn loans(rt: HostRuntime) {
-    for arenas in [1, 3] {
+    for arenas in [1, 3, 9] {
         loans_of::<Brand>(&rt, arenas, 112, Blank::new(MOST_LENT));
     }
-    for arenas in [0, 2] {
+    for arenas in [0, 2, 9] {
         loans_without_end::<Brand>(&rt, arenas, Blank::new(MOST_LENT));
     }
 }

@@ -74,7 +74,7 @@ fn run_at_once<L: PoolName + Send + Sync>(
 
 #[test]
 fn workers_run_at_once(rt: HostRuntime) -> Result<(), Fail> {
-    for workers in [2, 3] {
+    for workers in [2, 3, 9] {
         let plan = (PoolKind::Standard, None, workers);
         run_at_once::<Brand>(&rt, plan, Blank::new(MOST_LENT))?;
     }
