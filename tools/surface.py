@@ -15,6 +15,7 @@ TESTS = ["surface_tests", "program_surface_tests"]
 # What only crates and examples of this repository call or implement: a type stands for its methods, too.
 INNER = """
 Beside Plain
+cut_place join_parts parse_scripts put_outcome put_outcomes read_command
 Base Deed Region Steps OverArena Zeros Growth grown take_room allocator_of
 item_at put_copies put_item put_items copy_items move_items Item::encode_all InArena SliceIter
 Origin CloneIn::copy_of CloneIn::is_flat ChunkSource::request_region RefusingChunks::requests Ones::next
