@@ -1,7 +1,9 @@
 pub use Rattle.hash_ring.specs.Fx
+pub use Rattle.hash_ring.specs.Hashes
 pub use Rattle.hash_ring.specs.Finite
 pub use Rattle.hash_ring.specs.Slots
 pub use Rattle.hash_ring.specs.Searches
+pub use Rattle.hash_ring.specs.Walks as MapLists
 pub use Rattle.arena_table.specs.Contents
 pub use Rattle.arena_table.specs.Tables
 pub use Rattle.arena_table.specs.Edits
