@@ -1,12 +1,13 @@
 #!/bin/bash
-# Builds the static libraries, compares their exports with the declarations in Rattle, C and Rust, and runs the examples of
-# the repository through C and Rust, byte for byte. With ARENA_LIBS it takes the libraries from that folder. It needs no
-# network, and skips what needs a command that isn't there.
+# check.sh: checks the built libraries and all over them. With the kit it builds the libraries again, and compares them byte for
+# byte with those in bindings/lib; `check.sh --built` takes those as they are, and ARENA_LIBS names a folder with others. Then:
+# declarations in Rattle, C and Rust; the examples of the repository through C and Rust, byte for byte; random calls; tests. It
+# needs no network, and skips what needs a command or a library that isn't there.
 set -euo pipefail
 here=$(dirname "$(readlink -f "$0")")
 root=$(dirname "$here")
 examples=$root/examples
-export RATTLE_KIT=${RATTLE_KIT:-$(dirname "$(dirname "$(readlink -f "$(command -v rt)")")")}
+libs=${ARENA_LIBS:-$here/lib/$(uname -m)-unknown-linux-gnu}
 made=$(mktemp -d)
 trap 'rm -rf "$made"' EXIT
 . "$examples/checking.sh"
@@ -16,17 +17,21 @@ has() {
     command -v "$1" >/dev/null || { echo "skip $2: there is no $1"; return 1; }
 }
 
-for crate in arena_oracle arena_cursor; do
-    if [ -n "${ARENA_LIBS-}" ]; then
-        cp "$ARENA_LIBS/lib$crate.a" "$made"
-    else
-        cp "$("$root/tools/library.sh" "$crate")" "$made"
-    fi
-done
+# has_oracle PART
+has_oracle() {
+    [ -e "$libs/libarena_oracle.a" ] || { echo "skip $1: there is no $libs/libarena_oracle.a"; return 1; }
+}
+
+if [ "${1-}" != --built ] && [ -z "${ARENA_LIBS-}" ] && has rt 'libraries built again'; then
+    for crate in arena_cursor arena_oracle; do
+        "$here/lib/build.sh" --check "$crate" && true
+        report "lib$crate.a, byte for byte"
+    done
+fi
 
 # exports CRATE: the functions that C can call in the library of a crate.
 exports() {
-    nm -g --defined-only "$made/lib$1.a" | awk '$2 == "T" { print $3 }' | grep "^$1_" | sort
+    nm -g --defined-only "$libs/lib$1.a" | awk '$2 == "T" { print $3 }' | grep "^$1_" | sort
 }
 
 # declared FILE..: what these files declare, in a form that is the same for all languages.
@@ -42,7 +47,7 @@ compare_declarations() {
     report "declarations of $1 in C"
     [ "$(declared "$here/rust/src/$3")" = "$in_rattle" ] && true
     report "declarations of $1 in Rust"
-    if has nm 'exports'; then
+    if [ -e "$libs/lib$1.a" ] && has nm "exports of $1"; then
         [ "$(exports "$1")" = "$(sed -n 's/^\(arena[a-z_]*\)(.*/\1/p' <<<"$in_rattle")" ] && true
         report "exports of $1"
     fi
@@ -50,7 +55,7 @@ compare_declarations() {
 
 if has python3 'declarations'; then
     compare_declarations arena_oracle arena_oracle.h oracle.rs
-    compare_declarations arena_cursor arena_cursor.h arena.rs
+    compare_declarations arena_cursor arena_cursor.h ffi.rs
 fi
 
 # through PROGRAM LANGUAGE: the examples through a program with the words calls, draw and gen.
@@ -73,32 +78,50 @@ through() {
 # what the shortest programs print
 short=$(printf 'placed 20411 refused 0\nbytes 6868686868')
 
-if has cc 'C' && has make 'C'; then
-    make -s -C "$here/c" OUT="$made" LIBS="$made" KIT="$RATTLE_KIT" CFLAGS='-O2 -Werror' && true
+if has cc 'C' && has c++ 'C' && has make 'C'; then
+    make -s -C "$here/c" OUT="$made" LIBS="$libs" CFLAGS='-O2 -Werror' CXXFLAGS='-O2 -Werror' && true
     report 'C: builds'
-    through "$made/oracle" C
-    [ "$("$made/oracle" calls --budget 16320 --refuse 1 <<<'alloc 7 5 1 46')" = 'allocerr refused 1' ] && true
-    report 'C: a listed request is refused'
-    [ "$("$made/short")" = "$short" ] && true
-    report 'C: short'
     "$made/cursor" check 1000000 >/dev/null && true
     report 'C: a million random calls on a cursor'
+    "$made/compare" 10000000 >/dev/null && true
+    report 'C: ten million calls of the exports, and of others by hand'
+    "$made/growing" 500 >/dev/null && true
+    report 'C: random calls on the growing arena'
+    "$made/growing_cpp" >/dev/null && true
+    report 'C++'
+    if has_oracle 'runs of calls in C'; then
+        through "$made/oracle" C
+        [ "$("$made/oracle" calls --budget 16320 --refuse 1 <<<'alloc 7 5 1 46')" = 'allocerr refused 1' ] && true
+        report 'C: a listed request is refused'
+        [ "$("$made/short")" = "$short" ] && true
+        report 'C: short'
+    fi
 fi
 
 if has cargo 'Rust'; then
-    export ARENA_LIBS=$made CARGO_TARGET_DIR=$made/target CARGO_NET_OFFLINE=true
+    export ARENA_LIBS=$libs CARGO_TARGET_DIR=$made/target CARGO_NET_OFFLINE=true
     cd "$here/rust"
-    cargo test -q --release >"$made/tests" 2>&1 || { cat "$made/tests"; false; } && true
-    report 'Rust: tests'
-    [ "$(cargo run -q --release --example short)" = "$short" ] && true
-    report 'Rust: short'
-    cargo build -q --release && through "$CARGO_TARGET_DIR/release/oracle" Rust
+    # tests NAME WORDS..: cargo test with these words.
+    tests() {
+        cargo test -q "${@:2}" >"$made/tests" 2>&1 || { cat "$made/tests"; false; } && true
+        report "Rust: $1"
+    }
+    oracle=
+    has_oracle 'runs of calls in Rust' && oracle=oracle
+    tests 'tests' --no-default-features --features "$oracle"
+    tests 'tests with the feature fast' --no-default-features --features fast
+    RUSTC_BOOTSTRAP=1 tests "std's collections" --no-default-features --features nightly --test std_collections
+    if [ -n "$oracle" ]; then
+        [ "$(cargo run -q --release --example short)" = "$short" ] && true
+        report 'Rust: short'
+        cargo build -q --release && through "$CARGO_TARGET_DIR/release/oracle" Rust
+    fi
     if has cargo-fmt 'layout of Rust'; then
         cargo fmt --check && true
         report 'Rust: layout'
     fi
     if has cargo-clippy 'clippy'; then
-        cargo clippy -q --all-targets -- -D warnings && true
+        cargo clippy -q --all-targets --no-default-features --features "$oracle" -- -D warnings && true
         report 'Rust: clippy'
     fi
 fi

@@ -6,10 +6,10 @@ lines have the same form for all three: where they differ, so do the declaration
 import re
 import sys
 
-FUNCTION_IN_C = re.compile(r"^uint32_t (\w+)\(([^)]*)\);", re.M)
-FUNCTION_IN_RUST = re.compile(r'(?:extern "C"|^   ) fn (arena_\w+)\(([^)]*)\) -> u32', re.M)
-STRUCT = re.compile(r"(?:#\[repr\(C\)\]\n(?:#\[.*\]\n)*(?:pub )?|^)struct (\w+) \{([^}]*)\}", re.M)
-C_TYPES = {"uint8_t": "u8", "uint64_t": "u64", "size_t": "usize"}
+FUNCTION_IN_C = re.compile(r"^(uint32_t|uint64_t) (\w+)\(([^)]*)\);", re.M)
+FUNCTION_IN_RUST = re.compile(r'(?:extern "C"|^   )(?: pub\(crate\))? fn (arena_\w+)\(([^)]*)\)\s*-> (u32|u64)', re.M)
+STRUCT = re.compile(r"(?:#\[repr\(C\)\]\n(?:#\[.*\]\n)*(?:pub(?:\(crate\))? )?|^)struct (\w+) \{([^}]*)\}", re.M)
+C_TYPES = {"uint8_t": "u8", "uint32_t": "u32", "uint64_t": "u64", "size_t": "usize"}
 
 
 def of_c(parameter):
@@ -50,8 +50,9 @@ def declarations(path):
     with open(path, encoding="utf-8") as file:
         text = re.sub(r"/\*.*?\*/|//.*", "", file.read(), flags=re.S if path.endswith(".h") else 0)
     function, types = (FUNCTION_IN_C, of_c) if path.endswith(".h") else (FUNCTION_IN_RUST, of_rust)
-    for name, listed in function.findall(text):
-        yield f"{name}({', '.join(kind for one in parts(listed, ',') for kind in types(one))})"
+    for found in function.findall(text):
+        name, listed, result = found if types is of_rust else (*found[1:], C_TYPES[found[0]])
+        yield f"{name}({', '.join(kind for one in parts(listed, ',') for kind in types(one))}) -> {result}"
     for name, listed in STRUCT.findall(text):
         fields = fields_of_c(listed) if types is of_c else [re.sub("^pub ", "", field) for field in parts(listed, ",")]
         yield f"struct {name.split('_')[-1].lower()} {{ {', '.join(fields)} }}"

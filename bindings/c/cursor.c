@@ -1,5 +1,5 @@
 /* cursor check CALLS    compares this many random calls with the rules written again in C, over memory of this program
- * cursor bench          nanoseconds for each block, next to the same by hand */
+ * cursor bench          nanoseconds for each block: by a pointer to the cursor, by numbers, and the same by hand */
 #include "arena_cursor.h"
 #include <stdio.h>
 #include <stdlib.h>
@@ -100,7 +100,7 @@ static int check_resize(struct arena_cursor *at, struct block *b, uint64_t x) {
     if (in_use(&was, b)) wanted = grows ? grown(&was, b, size, align, &cursor) : shrunk(&was, b, size, align, &cursor);
     uint32_t code = grows ? arena_cursor_grow(at, &addr, b->size, b->align, size, align)
                           : arena_cursor_shrink(at, &addr, b->size, b->align, size, align);
-    if (code != (wanted ? 0 : in_use(&was, b) ? 1 : 4) || addr != (wanted ? wanted : b->addr) || at->cursor != cursor) return 0;
+    if (code != (wanted ? 0 : in_use(&was, b) ? 1 : 6) || addr != (wanted ? wanted : b->addr) || at->cursor != cursor) return 0;
     if (code) return 1;
     memmove((void *)(uintptr_t)addr, (void *)(uintptr_t)b->addr, kept);
     b->addr = addr, b->size = size, b->align = align;
@@ -114,7 +114,7 @@ static int check_give_back(struct arena_cursor *at, struct block *b) {
     uint64_t cursor = b->addr == was.cursor ? b->addr + b->size : was.cursor;
     uint32_t code = arena_cursor_give_back(at, b->addr, b->size);
     b->align = 0;
-    return code == (in_use(&was, b) ? 0 : 4) && at->cursor == cursor;
+    return code == (in_use(&was, b) ? 0 : 7) && at->cursor == cursor;
 }
 
 static int check(long calls) {
@@ -152,6 +152,14 @@ __attribute__((noinline)) static uint32_t by_hand(struct arena_cursor *at, uint6
     return 0;
 }
 
+static uint32_t by_numbers(struct arena_cursor *at, uint64_t size, uint64_t align, uint64_t *addr) {
+    uint64_t p = arena_cursor_find(at->start, at->cursor, size, align, at->min_align);
+    if (!p) return 1;
+    at->cursor = p;
+    *addr = p;
+    return 0;
+}
+
 static double nanoseconds(struct arena_cursor *at, uint32_t (*placed)(struct arena_cursor *, uint64_t, uint64_t, uint64_t *)) {
     uint64_t n = 0, addr;
     double from = now();
@@ -169,7 +177,8 @@ int main(int argc, char **argv) {
     if (!memory) return 3;
     struct arena_cursor at = arena_cursor_over(memory, MEMORY);
     for (int r = 0; r < 5; r++)
-        printf("proved %.2f ns a block, by hand %.2f ns\n", nanoseconds(&at, arena_cursor_place), nanoseconds(&at, by_hand));
+        printf("place %.2f ns a block, find %.2f ns, by hand %.2f ns\n", nanoseconds(&at, arena_cursor_place),
+               nanoseconds(&at, by_numbers), nanoseconds(&at, by_hand));
     free(memory);
     return 0;
 }

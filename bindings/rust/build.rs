@@ -1,20 +1,30 @@
-//! Links the static libraries. ARENA_LIBS is the folder with libarena_oracle.a and libarena_cursor.a, and RATTLE_KIT that
-//! of the kit, whose c/liblibc_c.a has the heap's functions. `bindings/check.sh` sets both.
+//! Links the static libraries of `bindings/lib/TARGET`, or of the folder that ARENA_LIBS names.
 
-fn folder(name: &str) -> String {
-    println!("cargo:rerun-if-env-changed={name}");
-    std::env::var(name).unwrap_or_else(|_| {
-        panic!("{name} isn't set: bindings/check.sh builds the libraries and sets it")
-    })
-}
+use std::env;
+use std::path::Path;
 
 fn main() {
-    let (libs, kit) = (folder("ARENA_LIBS"), folder("RATTLE_KIT"));
-    println!("cargo:rustc-link-search=native={libs}");
-    println!("cargo:rustc-link-search=native={kit}/c");
+    println!("cargo:rerun-if-env-changed=ARENA_LIBS");
+    // This file is in bindings/rust, also for the package that shares it.
+    let bindings = Path::new(env!("CARGO_MANIFEST_DIR")).join("..");
+    let target = env::var("TARGET").expect("cargo sets TARGET");
+    let folder = match env::var("ARENA_LIBS") {
+        Ok(folder) => folder.into(),
+        Err(_) => bindings.join("lib").join(&target),
+    };
+    println!("cargo:rustc-link-search=native={}", folder.display());
+    let has_oracle = env::var_os("CARGO_FEATURE_ORACLE").is_some();
     for name in ["arena_oracle", "arena_cursor"] {
-        println!("cargo:rerun-if-changed={libs}/lib{name}.a");
+        let library = folder.join(format!("lib{name}.a"));
+        if name == "arena_oracle" && !has_oracle {
+            continue;
+        }
+        assert!(
+            library.exists(),
+            "there is no {}: {target} has no built library, or ARENA_LIBS names another folder",
+            library.display()
+        );
+        println!("cargo:rerun-if-changed={}", library.display());
         println!("cargo:rustc-link-lib=static={name}");
     }
-    println!("cargo:rustc-link-lib=static=libc_c");
 }

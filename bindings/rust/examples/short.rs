@@ -1,11 +1,11 @@
 //! The shortest use of both libraries.
 
-use arena_bindings::{Arena, Limits, Oracle, RunError};
+use arena_bindings::{Limits, Oracle, Region, RunError};
 use std::mem::MaybeUninit;
 
 fn main() -> Result<(), RunError> {
     let mut memory = [MaybeUninit::uninit(); 4096];
-    let arena = Arena::new(&mut memory);
+    let arena = Region::new(&mut memory);
     let numbers: Option<&mut [u32]> = arena.alloc_slice(&[1, 2, 3]);
     assert_eq!(numbers, Some(&mut [1, 2, 3][..]));
 

@@ -1,260 +1,458 @@
-//! A bump arena over a slice of memory, whose addresses come from the proved rules.
+//! A bump arena that grows. Where its blocks lie, and how large its chunks are, comes from the proved library; this file
+//! asks the global allocator for chunks, keeps them in a list, and frees them.
 
+use crate::ffi::{self, Chunk, Counts, Cursor, DONE};
+use std::alloc::{Layout, alloc, dealloc};
 use std::cell::Cell;
-use std::marker::PhantomData;
-use std::mem::{MaybeUninit, align_of, size_of};
-use std::ptr::NonNull;
+use std::fmt;
+use std::mem::MaybeUninit;
+use std::ptr::{self, NonNull};
 
-#[repr(C)]
-#[derive(Clone, Copy)]
-struct Cursor {
-    start: u64,
-    cursor: u64,
-    end: u64,
+/// There is no memory, or no layout is that large.
+#[derive(Clone, Copy, Debug, PartialEq, Eq)]
+pub struct AllocError;
+
+impl fmt::Display for AllocError {
+    fn fmt(&self, f: &mut fmt::Formatter<'_>) -> fmt::Result {
+        f.write_str("memory allocation failed")
+    }
 }
 
-// As in bindings/c/arena_cursor.h.
-unsafe extern "C" {
-    fn arena_cursor_place(at: *mut Cursor, size: u64, align: u64, addr: *mut u64) -> u32;
-    fn arena_cursor_give_back(at: *mut Cursor, addr: u64, size: u64) -> u32;
-    fn arena_cursor_grow(
-        at: *mut Cursor,
-        addr: *mut u64,
-        size: u64,
-        align: u64,
-        new_size: u64,
-        new_align: u64,
-    ) -> u32;
-    fn arena_cursor_shrink(
-        at: *mut Cursor,
-        addr: *mut u64,
-        size: u64,
-        align: u64,
-        new_size: u64,
-        new_align: u64,
-    ) -> u32;
-    fn arena_cursor_back(at: *mut Cursor, mark: u64) -> u32;
+impl std::error::Error for AllocError {}
+
+// In the 48 bytes behind the data of each chunk.
+#[repr(C, align(16))]
+pub(crate) struct Footer {
+    // Where the chunk begins, and where its cursor was when it was left for a newer one.
+    at: Cell<(u64, u64)>,
+    // The bytes and the alignment that it was allocated with.
+    layout: Layout,
+    older: Cell<Option<NonNull<Footer>>>,
 }
 
-/// A bump arena over memory of the caller. Values in it live until the arena is reset. None is dropped.
+const _: () = assert!(size_of::<Footer>() <= 48);
+const _: () = assert!(size_of::<usize>() == 8, "the library counts in 64 bits");
+
+/// A bump arena that grows by chunks of the global allocator. Values in it live until it is reset. None is dropped.
+///
+/// Each block is at a multiple of `MIN_ALIGN`, which is 1, 2, 4, 8 or 16.
+///
+/// ```
+/// use arena_bindings::Arena;
+///
+/// let mut arena = Arena::new();
+/// for line in ["one", "two"] {
+///     let words: Vec<&mut str> = line.split(' ').map(|word| arena.alloc_str(word)).collect();
+///     assert_eq!(words.len(), 1);
+/// }
+/// arena.reset();
+/// assert_eq!(arena.used_bytes(), 0);
+/// ```
 ///
 /// A reference into the arena can't outlive a reset:
 ///
 /// ```compile_fail,E0502
-/// use arena_bindings::Arena;
-/// use std::mem::MaybeUninit;
-///
-/// let mut memory = [MaybeUninit::uninit(); 64];
-/// let mut arena = Arena::new(&mut memory);
+/// let mut arena = arena_bindings::Arena::new();
 /// let one = arena.alloc(1u8);
 /// arena.reset();
-/// assert_eq!(one, Some(&mut 1));
+/// assert_eq!(one, &1);
 /// ```
 ///
 /// Nor can one that was made in a scope leave it:
 ///
 /// ```compile_fail
-/// use arena_bindings::Arena;
-/// use std::mem::MaybeUninit;
-///
-/// let mut memory = [MaybeUninit::uninit(); 64];
-/// let mut arena = Arena::new(&mut memory);
+/// let mut arena = arena_bindings::Arena::new();
 /// let one = arena.scope(|inner| inner.alloc(1u8));
 /// ```
-pub struct Arena<'m> {
-    cursor: Cell<Cursor>,
-    base: NonNull<u8>,
-    memory: PhantomData<&'m mut [MaybeUninit<u8>]>,
+pub struct Arena<const MIN_ALIGN: usize = 1> {
+    pub(crate) at: Cell<Cursor>,
+    newest: Cell<Option<NonNull<Footer>>>,
 }
 
-impl<'m> Arena<'m> {
-    /// Returns an empty arena over this memory.
-    pub fn new(memory: &'m mut [MaybeUninit<u8>]) -> Arena<'m> {
-        let base = NonNull::from(&mut *memory).cast::<u8>();
-        let start = base.addr().get() as u64;
-        let end = start + memory.len() as u64;
-        let cursor = Cursor {
-            start,
-            cursor: end,
-            end,
-        };
+// SAFETY: all references into the chunks borrow the arena, which can be sent only when there are none.
+unsafe impl<const M: usize> Send for Arena<M> {}
+
+/// A state of an arena to go back to: [`Arena::checkpoint`].
+#[derive(Clone, Copy, Debug)]
+pub struct Checkpoint {
+    newest: Option<NonNull<Footer>>,
+    cursor: u64,
+}
+
+impl Arena<1> {
+    /// Returns an empty arena. It takes no memory before the first block.
+    ///
+    /// ```
+    /// let arena = arena_bindings::Arena::new();
+    /// assert_eq!(arena.allocated_bytes(), 0);
+    /// ```
+    #[inline]
+    pub const fn new() -> Self {
+        Self::with_min_align()
+    }
+
+    /// Returns an arena with a chunk of at least this many bytes. Panics without memory.
+    ///
+    /// ```
+    /// let arena = arena_bindings::Arena::with_capacity(1000);
+    /// assert!(arena.capacity() >= 1000);
+    /// ```
+    pub fn with_capacity(capacity: usize) -> Self {
+        Self::with_min_align_and_capacity(capacity)
+    }
+
+    /// Returns an arena with a chunk of at least this many bytes, or an error without memory.
+    ///
+    /// ```
+    /// use arena_bindings::Arena;
+    ///
+    /// assert!(Arena::try_with_capacity(1000).is_ok());
+    /// assert!(Arena::try_with_capacity(usize::MAX).is_err());
+    /// ```
+    pub fn try_with_capacity(capacity: usize) -> Result<Self, AllocError> {
+        Self::try_with_min_align_and_capacity(capacity)
+    }
+}
+
+impl<const M: usize> Default for Arena<M> {
+    fn default() -> Self {
+        Self::with_min_align()
+    }
+}
+
+impl<const M: usize> fmt::Debug for Arena<M> {
+    fn fmt(&self, f: &mut fmt::Formatter<'_>) -> fmt::Result {
+        f.debug_struct("Arena")
+            .field("used_bytes", &self.used_bytes())
+            .field("allocated_bytes", &self.allocated_bytes())
+            .finish()
+    }
+}
+
+#[cold]
+#[inline(never)]
+pub(crate) fn out_of_memory() -> ! {
+    panic!("out of memory")
+}
+
+// The pointer to an address that the library returned, in a chunk whose provenance was exposed.
+#[inline(always)]
+pub(crate) fn pointer(addr: u64) -> NonNull<u8> {
+    // SAFETY: the library returns no address below the start of a chunk, which is above 0.
+    unsafe { NonNull::new_unchecked(ptr::with_exposed_provenance_mut(addr as usize)) }
+}
+
+#[inline(always)]
+pub(crate) fn addr_of(block: NonNull<u8>) -> u64 {
+    block.as_ptr().addr() as u64
+}
+
+impl<const M: usize> Arena<M> {
+    /// The least alignment of blocks.
+    pub const MIN_ALIGN: usize = {
+        assert!(
+            M.is_power_of_two() && M <= 16,
+            "MIN_ALIGN is 1, 2, 4, 8 or 16"
+        );
+        M
+    };
+
+    // The cursor of an arena without a chunk: nothing but an empty block has a place.
+    const NO_CHUNK: Cursor = Cursor {
+        start: 16,
+        cursor: 16,
+        end: 16,
+        min_align: M as u64,
+    };
+
+    /// Returns an empty arena with this least alignment.
+    ///
+    /// ```
+    /// use arena_bindings::Arena;
+    ///
+    /// let arena = Arena::<8>::with_min_align();
+    /// let (one, two) = (arena.alloc(1u8), arena.alloc(2u8));
+    /// assert_eq!((&raw const *one).addr() - (&raw const *two).addr(), 8);
+    /// ```
+    #[inline]
+    pub const fn with_min_align() -> Self {
+        const { Self::MIN_ALIGN };
         Arena {
-            cursor: Cell::new(cursor),
-            base,
-            memory: PhantomData,
+            at: Cell::new(Self::NO_CHUNK),
+            newest: Cell::new(None),
         }
     }
 
-    /// Returns how many bytes are in use.
-    pub fn used(&self) -> usize {
-        let at = self.cursor.get();
-        (at.end - at.cursor) as usize
+    /// Returns an arena with this least alignment and a chunk of at least this many bytes. Panics without memory.
+    ///
+    /// ```
+    /// let arena = arena_bindings::Arena::<16>::with_min_align_and_capacity(1000);
+    /// assert!(arena.capacity() >= 1000);
+    /// ```
+    pub fn with_min_align_and_capacity(capacity: usize) -> Self {
+        Self::try_with_min_align_and_capacity(capacity).unwrap_or_else(|_| out_of_memory())
     }
 
-    /// Allocates a value. Returns `None` if there is no room for it.
-    #[allow(clippy::mut_from_ref)]
-    pub fn alloc<T>(&self, value: T) -> Option<&mut T> {
-        let block = self.allocate(size_of::<T>(), align_of::<T>())?.cast::<T>();
-        // SAFETY: the block is aligned for a T, inside the arena's memory, and disjoint from all blocks since the last
-        // reset, which takes the arena by a unique reference.
-        unsafe {
-            block.write(value);
-            Some(&mut *block.as_ptr())
-        }
-    }
-
-    /// Allocates a copy of the items. Returns `None` if there is no room for them.
-    #[allow(clippy::mut_from_ref)]
-    pub fn alloc_slice<T: Copy>(&self, items: &[T]) -> Option<&mut [T]> {
-        let block = self
-            .allocate(size_of_val(items), align_of::<T>())?
-            .cast::<T>();
-        // SAFETY: as in `alloc`, for this many values in a row.
-        unsafe {
-            block.copy_from_nonoverlapping(NonNull::from(items).cast(), items.len());
-            Some(std::slice::from_raw_parts_mut(block.as_ptr(), items.len()))
-        }
-    }
-
-    /// Allocates a copy of a string. Returns `None` if there is no room for it.
-    pub fn alloc_str(&self, text: &str) -> Option<&str> {
-        let bytes = self.alloc_slice(text.as_bytes())?;
-        // SAFETY: these are the bytes of a string.
-        Some(unsafe { std::str::from_utf8_unchecked(bytes) })
-    }
-
-    /// Returns an empty vector, which grows in this arena.
-    pub fn vec<T: Copy>(&self) -> ArenaVec<'_, T> {
-        ArenaVec {
-            arena: self,
-            start: NonNull::dangling(),
-            len: 0,
-            capacity: 0,
-        }
-    }
-
-    /// Runs `work` with this arena, and then frees all that it allocated.
-    pub fn scope<R>(&mut self, work: impl FnOnce(&Arena<'_>) -> R) -> R {
-        let mark = self.cursor.get().cursor;
-        let result = work(self);
-        self.rewind(mark);
-        result
-    }
-
-    /// Frees everything.
-    pub fn reset(&mut self) {
-        self.rewind(self.cursor.get().end);
-    }
-
-    fn rewind(&mut self, mark: u64) {
-        // SAFETY: the library takes any numbers, and the pointer is to a variable of this call.
-        let code = self.update(|at| unsafe { arena_cursor_back(at, mark) });
-        debug_assert_eq!(code, 0);
-    }
-
-    // Calls the library with the cursor, and returns its code.
-    fn update(&self, call: impl FnOnce(*mut Cursor) -> u32) -> u32 {
-        let mut at = self.cursor.get();
-        let code = call(&mut at);
-        self.cursor.set(at);
-        code
-    }
-
-    fn allocate(&self, size: usize, align: usize) -> Option<NonNull<u8>> {
-        let mut addr = 0;
-        // SAFETY: the library takes any numbers, and the two pointers are to variables of this call.
-        let code = self
-            .update(|at| unsafe { arena_cursor_place(at, size as u64, align as u64, &mut addr) });
-        (code == 0).then(|| self.pointer(addr))
-    }
-
-    // The pointer to an address that the library returned with code 0.
-    fn pointer(&self, addr: u64) -> NonNull<u8> {
-        // SAFETY: such an address is between the start and the end of the memory.
-        unsafe { self.base.add((addr - self.cursor.get().start) as usize) }
-    }
-}
-
-/// A growable vector in an arena. It is resized in place while it is the newest block.
-pub struct ArenaVec<'a, T: Copy> {
-    arena: &'a Arena<'a>,
-    start: NonNull<T>,
-    len: usize,
-    capacity: usize,
-}
-
-impl<'a, T: Copy> ArenaVec<'a, T> {
-    /// Appends a value. If there is no room for it, returns it as an error, and the vector is as it was.
-    pub fn push(&mut self, value: T) -> Result<(), T> {
-        if self.len == self.capacity
-            && !self.resize((self.capacity * 2).max(4))
-            && !self.resize(self.capacity + 1)
-        {
-            return Err(value);
-        }
-        // SAFETY: there is room for one more value.
-        unsafe { self.start.add(self.len).write(value) };
-        self.len += 1;
-        Ok(())
-    }
-
-    /// Returns the values.
-    pub fn as_slice(&self) -> &[T] {
-        // SAFETY: this many values were written.
-        unsafe { std::slice::from_raw_parts(self.start.as_ptr(), self.len) }
-    }
-
-    /// Frees spare capacity, if the vector is the newest block and at most half full, and returns the values.
-    pub fn into_slice(mut self) -> &'a mut [T] {
-        if self.len < self.capacity {
-            self.resize(self.len);
-        }
-        // SAFETY: this many values were written, and nothing else refers to them.
-        unsafe { std::slice::from_raw_parts_mut(self.start.as_ptr(), self.len) }
-    }
-
-    /// Frees the vector's block. Its bytes are used again only if it is the newest block.
-    pub fn free(self) {
-        let size = self.size();
-        if size > 0 {
-            let addr = self.start.addr().get() as u64;
+    /// Returns an arena with this least alignment and a chunk of at least this many bytes, or an error without memory.
+    pub fn try_with_min_align_and_capacity(capacity: usize) -> Result<Self, AllocError> {
+        let arena = Self::with_min_align();
+        if capacity > 0 {
+            let (capacity, mut chunk) = (capacity as u64, Chunk::default());
             // SAFETY: the library takes any numbers, and the pointer is to a variable of this call.
-            let code = self
-                .arena
-                .update(|at| unsafe { arena_cursor_give_back(at, addr, size) });
-            debug_assert_eq!(code, 0);
-        }
-    }
-
-    // Bytes of the vector's block.
-    fn size(&self) -> u64 {
-        (self.capacity * size_of::<T>()) as u64
-    }
-
-    // Moves the values to a block for this many, at least as many as there are. Returns whether there is room for it.
-    fn resize(&mut self, capacity: usize) -> bool {
-        let Some(new) = size_of::<T>().checked_mul(capacity) else {
-            return false;
-        };
-        let (old, new, align) = (self.size(), new as u64, align_of::<T>() as u64);
-        let mut addr = self.start.addr().get() as u64;
-        // SAFETY: the library takes any numbers, and the two pointers are to variables of this call.
-        let code = self.arena.update(|at| unsafe {
-            if old == 0 {
-                arena_cursor_place(at, new, align, &mut addr)
-            } else if new >= old {
-                arena_cursor_grow(at, &mut addr, old, align, new, align)
-            } else {
-                arena_cursor_shrink(at, &mut addr, old, align, new, align)
+            let code = unsafe { ffi::arena_cursor_chunk(capacity, capacity, M as u64, &mut chunk) };
+            if code != DONE || !arena.add(chunk) {
+                return Err(AllocError);
             }
-        });
-        if code != 0 {
+        }
+        Ok(arena)
+    }
+
+    // Asks for a chunk, which becomes the newest. Returns whether it was granted.
+    pub(crate) fn add(&self, chunk: Chunk) -> bool {
+        // SAFETY: the library wrote the request with code 0: it is proved to be a layout, of at least 48 bytes.
+        let (layout, base) = unsafe {
+            let layout =
+                Layout::from_size_align_unchecked(chunk.bytes as usize, chunk.align as usize);
+            (layout, alloc(layout))
+        };
+        if base.is_null() {
             return false;
         }
-        let to = self.arena.pointer(addr).cast::<T>();
-        // SAFETY: both blocks have room for the values, and may overlap.
-        unsafe { to.copy_from(self.start, self.len) };
-        (self.start, self.capacity) = (to, capacity);
+        if let Some(newest) = self.newest.get() {
+            let at = self.at.get();
+            // SAFETY: the newest chunk lives as long as the arena.
+            unsafe { newest.as_ref() }.at.set((at.start, at.cursor));
+        }
+        let start = base.expose_provenance() as u64;
+        // SAFETY: the library takes any numbers, and the pointer is to the arena's own cursor.
+        let code =
+            unsafe { ffi::arena_cursor_enter(self.at.as_ptr(), start, chunk.size, M as u64) };
+        debug_assert_eq!(code, DONE);
+        // SAFETY: the footer is in the 48 bytes behind the data, and aligned, since base and size are multiples of 16.
+        unsafe {
+            let footer = base.add(chunk.size as usize).cast::<Footer>();
+            footer.write(Footer {
+                at: Cell::new((start, start + chunk.size)),
+                layout,
+                older: Cell::new(self.newest.get()),
+            });
+            self.newest.set(Some(NonNull::new_unchecked(footer)));
+        }
         true
+    }
+
+    // Frees the chunks from this one on, up to one that stays.
+    fn free(&self, mut chunk: Option<NonNull<Footer>>, kept: Option<NonNull<Footer>>) {
+        while chunk != kept
+            && let Some(footer) = chunk
+        {
+            // SAFETY: the footer is that of a chunk of this arena. It is read before the chunk is freed.
+            unsafe {
+                let (base, layout) = (footer.as_ref().at.get().0, footer.as_ref().layout);
+                chunk = footer.as_ref().older.get();
+                dealloc(pointer(base).as_ptr(), layout);
+            }
+        }
+    }
+
+    // The cursor in a chunk, as it was when the chunk was left.
+    fn left(footer: NonNull<Footer>) -> Cursor {
+        // SAFETY: the footer is that of a chunk of this arena.
+        let (start, cursor) = unsafe { footer.as_ref() }.at.get();
+        // The data ends where the footer begins.
+        let end = footer.addr().get() as u64;
+        Cursor {
+            start,
+            cursor,
+            end,
+            min_align: M as u64,
+        }
+    }
+
+    // The cursors of all chunks, newest first.
+    fn cursors(&self) -> impl Iterator<Item = Cursor> {
+        let mut chunk = self.newest.get();
+        let mut newest = Some(self.at.get());
+        std::iter::from_fn(move || {
+            let footer = chunk?;
+            // SAFETY: the footer is that of a chunk of this arena.
+            chunk = unsafe { footer.as_ref() }.older.get();
+            Some(newest.take().unwrap_or_else(|| Self::left(footer)))
+        })
+    }
+
+    pub(crate) fn counts(at: &Cursor) -> Counts {
+        let mut counts = Counts::default();
+        // SAFETY: the library takes any numbers, and the pointers are to variables of the caller and of this call.
+        let code = unsafe { ffi::arena_cursor_count(at, &mut counts) };
+        debug_assert_eq!(code, DONE);
+        counts
+    }
+
+    /// Returns how many bytes are in use, with the padding between blocks.
+    ///
+    /// ```
+    /// let arena = arena_bindings::Arena::new();
+    /// arena.alloc([0u8; 100]);
+    /// assert_eq!(arena.used_bytes(), 100);
+    /// ```
+    pub fn used_bytes(&self) -> usize {
+        self.cursors()
+            .map(|at| Self::counts(&at).used as usize)
+            .sum()
+    }
+
+    /// Returns how many bytes the chunks have for blocks.
+    ///
+    /// ```
+    /// let arena = arena_bindings::Arena::new();
+    /// arena.alloc(1u8);
+    /// assert_eq!(arena.allocated_bytes(), 16384 - 64);
+    /// ```
+    pub fn allocated_bytes(&self) -> usize {
+        self.cursors()
+            .map(|at| Self::counts(&at).size as usize)
+            .sum()
+    }
+
+    /// Returns how many bytes the chunks take of the global allocator: 48 more in each than it has for blocks.
+    ///
+    /// ```
+    /// let arena = arena_bindings::Arena::new();
+    /// arena.alloc(1u8);
+    /// assert_eq!(arena.allocated_bytes_including_metadata(), arena.allocated_bytes() + 48);
+    /// ```
+    pub fn allocated_bytes_including_metadata(&self) -> usize {
+        self.cursors()
+            .map(|at| Self::counts(&at).size as usize + 48)
+            .sum()
+    }
+
+    /// Returns how many bytes the newest chunk has for blocks.
+    ///
+    /// ```
+    /// let arena = arena_bindings::Arena::with_capacity(100);
+    /// assert_eq!(arena.capacity(), 256 - 64);
+    /// ```
+    pub fn capacity(&self) -> usize {
+        Self::counts(&self.at.get()).size as usize
+    }
+
+    /// Returns how many bytes are left in the newest chunk.
+    ///
+    /// ```
+    /// let arena = arena_bindings::Arena::with_capacity(100);
+    /// arena.alloc([0u8; 92]);
+    /// assert_eq!(arena.chunk_capacity(), 100);
+    /// ```
+    pub fn chunk_capacity(&self) -> usize {
+        Self::counts(&self.at.get()).free as usize
+    }
+
+    /// Returns the used part of each chunk, newest first, and within it the newest block first.
+    ///
+    /// ```
+    /// let mut arena = arena_bindings::Arena::new();
+    /// arena.alloc_str("a block");
+    /// assert_eq!(arena.iter_allocated_chunks().map(|chunk| chunk.len()).sum::<usize>(), 7);
+    /// ```
+    pub fn iter_allocated_chunks(&mut self) -> impl Iterator<Item = &[MaybeUninit<u8>]> {
+        self.chunks_raw().map(|(start, len)| {
+            // SAFETY: these bytes are in a chunk, and no reference into the arena is alive.
+            unsafe { std::slice::from_raw_parts(start.as_ptr().cast(), len) }
+        })
+    }
+
+    /// Returns the address and the length of the used part of each chunk, newest first.
+    ///
+    /// ```
+    /// let arena = arena_bindings::Arena::new();
+    /// let text = arena.alloc_str("a block");
+    /// let (start, len) = arena.chunks_raw().next().unwrap();
+    /// assert_eq!((start.as_ptr().cast_const(), len), (text.as_ptr(), 7));
+    /// ```
+    pub fn chunks_raw(&self) -> impl Iterator<Item = (NonNull<u8>, usize)> {
+        self.cursors()
+            .map(|at| (pointer(at.cursor), Self::counts(&at).used as usize))
+    }
+
+    /// Frees everything, and keeps the newest chunk.
+    ///
+    /// ```
+    /// let mut arena = arena_bindings::Arena::new();
+    /// arena.alloc([0u8; 40_000]);
+    /// let all = arena.allocated_bytes();
+    /// arena.reset();
+    /// assert_eq!((arena.used_bytes(), arena.allocated_bytes()), (0, all));
+    /// ```
+    pub fn reset(&mut self) {
+        if let Some(newest) = self.newest.get() {
+            // SAFETY: the newest chunk lives as long as the arena.
+            let older = unsafe { newest.as_ref() }.older.replace(None);
+            self.free(older, None);
+        }
+        // SAFETY: the library takes any numbers, and the pointer is to the arena's own cursor.
+        let code = unsafe { ffi::arena_cursor_reset(self.at.as_ptr()) };
+        debug_assert_eq!(code, DONE);
+    }
+
+    /// Returns the state now, to go back to.
+    ///
+    /// ```
+    /// let mut arena = arena_bindings::Arena::new();
+    /// arena.alloc(1u64);
+    /// let mark = arena.checkpoint();
+    /// arena.alloc([0u64; 5000]);
+    /// // SAFETY: the checkpoint is of this arena, which wasn't reset.
+    /// unsafe { arena.back(mark) };
+    /// assert_eq!(arena.used_bytes(), 8);
+    /// ```
+    pub fn checkpoint(&self) -> Checkpoint {
+        Checkpoint {
+            newest: self.newest.get(),
+            cursor: self.at.get().cursor,
+        }
+    }
+
+    /// Frees all that was allocated since a checkpoint, also the chunks.
+    ///
+    /// # Safety
+    ///
+    /// The checkpoint is of this arena, which wasn't reset since, or taken back to an earlier one.
+    pub unsafe fn back(&mut self, mark: Checkpoint) {
+        if self.newest.get() != mark.newest {
+            self.free(self.newest.get(), mark.newest);
+            self.newest.set(mark.newest);
+            self.at.set(mark.newest.map_or(Self::NO_CHUNK, Self::left));
+        }
+        // SAFETY: the library takes any numbers, and the pointer is to the arena's own cursor. If blocks from before the
+        // checkpoint were given back, the cursor is above it, and stays there.
+        let _ = unsafe { ffi::arena_cursor_back(self.at.as_ptr(), mark.cursor) };
+    }
+
+    /// Runs `work` with this arena, and then frees all that it allocated, also if it panics.
+    ///
+    /// ```
+    /// let mut arena = arena_bindings::Arena::new();
+    /// let sum: u32 = arena.scope(|inner| inner.alloc_slice_copy(&[1, 2, 3]).iter().sum());
+    /// assert_eq!((sum, arena.used_bytes()), (6, 0));
+    /// ```
+    pub fn scope<R>(&mut self, work: impl FnOnce(&Self) -> R) -> R {
+        struct Back<'a, const M: usize>(&'a mut Arena<M>, Checkpoint);
+        impl<const M: usize> Drop for Back<'_, M> {
+            fn drop(&mut self) {
+                // SAFETY: the checkpoint is of this arena, which was shared since.
+                unsafe { self.0.back(self.1) }
+            }
+        }
+        let mark = self.checkpoint();
+        let back = Back(self, mark);
+        work(back.0)
+    }
+}
+
+impl<const M: usize> Drop for Arena<M> {
+    fn drop(&mut self) {
+        self.free(self.newest.get(), None);
     }
 }

@@ -98,6 +98,14 @@ impl Default for Limits {
 }
 
 /// Runs calls, each time over a new arena. It keeps its buffer for the next run.
+///
+/// ```
+/// use arena_bindings::{Limits, Oracle};
+///
+/// let mut oracle = Oracle::default();
+/// let text = oracle.calls(b"alloc 0 5 1 104\nread 0\n", &Limits::default());
+/// assert_eq!(text, Ok(&b"placed 20411 refused 0\nbytes 6868686868\n"[..]));
+/// ```
 #[derive(Default)]
 pub struct Oracle {
     out: Vec<u8>,

@@ -7,14 +7,14 @@ use Rattle.std.proofs.lemmas.Bool.{cases_lt}
 use Rattle.std.proofs.lemmas.Bool.Decides.{nat_tests}
 use native.Mathlib.Nat.{zero-mod}
 use Rattle.arena_rules.specs.Rounding.{up, down, is_layout, is_power}
-use Rattle.arena_rules.specs.State.{is_min_align, State, Chunk, newest_size}
+use Rattle.arena_rules.specs.State.{is_min_align, Chunk}
 use Rattle.arena_rules.specs.Search.{asked, halves, possible, entries, asked_above, next_base, size_for, chunk_align, place_below}
 use Rattle.arena_rules.proofs.RoundingLemmas.{up_ge, up_least, down_le, down_mod, down_greatest, sum_multiple, difference_multiple, power_positive, power_multiple, max_power, pow_power, layout_power, layout_small, min_align_power, min_align_le}
 use Rattle.arena_rules.proofs.SearchLemmas.{possible_some, possible_none, size_valid, entries_pass, entries_next, entries_end, asked_above_is}
 use Rattle.arena_rules.proofs.EntryLemmas.{possible_entry}
 use Rattle.arena_rules.proofs.PlaceLemmas.{place_found, past_none}
 use Rattle.arena_cursor.specs.Growing.{sizes_of, size_after, IsRequest}
-use Rattle.arena_cursor.specs.Steps.{arena_of, arena_over}
+use Rattle.arena_cursor.specs.Steps.{arena_over}
 use Rattle.arena_cursor.specs.declared.cursor.Cursor.{Cursor}
 use Rattle.arena_cursor.specs.declared.growing.Chunk.{Chunk as Request}
 

@@ -1,5 +1,5 @@
 -- Steps of the rules in an arena that doesn't grow: it asks for nothing, so that no request is refused.
-use Rattle.std.proofs.Common.{◌≡◌, ℕ, ◌+◌, ◌-◌, ◌%◌, ◌^◌, ◌<◌, ◌≤◌, ◌⊎◌, inl, inr, max, refl, sym, ap, subst, arith, true, false, IsTrue, Option, Some, None, length, nat_le, ◌&&◌, ◌==◌, not}
+use Rattle.std.proofs.Common.{◌≡◌, ℕ, ◌+◌, ◌-◌, ◌%◌, ◌<◌, ◌≤◌, ◌⊎◌, inl, inr, max, refl, sym, subst, arith, true, false, IsTrue, Option, Some, None, length, nat_le, ◌&&◌, ◌==◌, not}
 use Rattle.std.proofs.lemmas.Bool.Decides.{nat_tests}
 use Rattle.arena_rules.specs.Rounding.{up, down, is_layout}
 use Rattle.arena_rules.specs.Search.{place_below, asked}

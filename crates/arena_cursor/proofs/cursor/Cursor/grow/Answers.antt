@@ -1,4 +1,4 @@
-use Rattle.std.proofs.Common.{◌≡◌, ◌+◌, ◌≤◌, arith}
+use Rattle.std.proofs.Common.{arith}
 use Rattle.arena_rules.specs.Rounding.{up}
 use Rattle.arena_cursor.proofs.PlaceLemmas.{valid_is, size_grows}
 use Rattle.arena_cursor.proofs.ApartLemmas.{resized_down}

@@ -1,5 +1,5 @@
 //! The arena over a slice of memory.
-use arena_bindings::Arena;
+use arena_bindings::Region;
 use std::mem::MaybeUninit;
 
 fn memory<const N: usize>() -> [MaybeUninit<u8>; N] {
@@ -9,7 +9,7 @@ fn memory<const N: usize>() -> [MaybeUninit<u8>; N] {
 #[test]
 fn values_are_disjoint() {
     let mut memory = memory::<4096>();
-    let arena = Arena::new(&mut memory);
+    let arena = Region::new(&mut memory);
     let one = arena.alloc(1u8).expect("room");
     let two = arena.alloc(2u64).expect("room");
     let text = arena.alloc_str("hello").expect("room");
@@ -27,20 +27,20 @@ fn values_are_disjoint() {
 #[test]
 fn a_full_arena_returns_none() {
     let mut memory = memory::<16>();
-    let mut arena = Arena::new(&mut memory);
+    let mut arena = Region::new(&mut memory);
     assert!(arena.alloc([0u8; 17]).is_none());
     assert!(arena.alloc([0u8; 16]).is_some());
     assert!(arena.alloc(0u8).is_none());
     arena.reset();
     assert!(arena.alloc([0u8; 16]).is_some());
-    assert!(Arena::new(&mut []).alloc(0u8).is_none());
-    assert!(Arena::new(&mut []).alloc(()).is_some());
+    assert!(Region::new(&mut []).alloc(0u8).is_none());
+    assert!(Region::new(&mut []).alloc(()).is_some());
 }
 
 #[test]
 fn a_scope_frees_what_it_allocated() {
     let mut memory = memory::<256>();
-    let mut arena = Arena::new(&mut memory);
+    let mut arena = Region::new(&mut memory);
     arena.alloc(1u32).expect("room");
     let used = arena.used();
     let sum = arena.scope(|inner| {
@@ -53,7 +53,7 @@ fn a_scope_frees_what_it_allocated() {
 #[test]
 fn vectors_grow_beside_one_another() {
     let mut memory = memory::<65536>();
-    let arena = Arena::new(&mut memory);
+    let arena = Region::new(&mut memory);
     let (mut odd, mut even) = (arena.vec::<u32>(), arena.vec::<u64>());
     for n in 0..500 {
         odd.push(2 * n + 1).expect("room");
@@ -67,7 +67,7 @@ fn vectors_grow_beside_one_another() {
 #[test]
 fn a_vector_without_room_is_unchanged() {
     let mut memory = memory::<64>();
-    let arena = Arena::new(&mut memory);
+    let arena = Region::new(&mut memory);
     let mut numbers = arena.vec::<u64>();
     let count = (0..100).take_while(|&n| numbers.push(n).is_ok()).count();
     assert!((4..=8).contains(&count));
@@ -81,7 +81,7 @@ fn a_vector_without_room_is_unchanged() {
 #[test]
 fn spare_capacity_is_freed() {
     let mut memory = memory::<256>();
-    let arena = Arena::new(&mut memory);
+    let arena = Region::new(&mut memory);
     let mut numbers = arena.vec::<u8>();
     for n in 0..33 {
         numbers.push(n).expect("room");
@@ -98,7 +98,7 @@ fn spare_capacity_is_freed() {
 #[test]
 fn empty_values_take_no_room() {
     let mut memory = memory::<8>();
-    let arena = Arena::new(&mut memory);
+    let arena = Region::new(&mut memory);
     let bytes = {
         let mut bytes = arena.vec::<u8>();
         bytes.push(1).expect("room");
