@@ -3,18 +3,10 @@
 #     run.sh random ROUNDS [SEED]    random bytes, without libFuzzer
 #     run.sh fuzz SECONDS            libFuzzer, led by the coverage of the real crate; the corpus is in target/corpus
 #     run.sh plants [ROUNDS]         three wrong arenas, each of which must be found
-# With ARENA_LIBS it takes the static libraries from that folder.
+# The static libraries are those of bindings/lib, or of the folder that ARENA_LIBS names.
 set -euo pipefail
 cd "$(dirname "$(readlink -f "$0")")"
 command -v cargo >/dev/null || { echo 'skip: there is no cargo'; exit 0; }
-export RATTLE_KIT=${RATTLE_KIT:-$(dirname "$(dirname "$(readlink -f "$(command -v rt)")")")}
-if [ -z "${ARENA_LIBS-}" ]; then
-    export ARENA_LIBS=$PWD/target/libs
-    mkdir -p "$ARENA_LIBS"
-    for crate in arena_oracle arena_cursor; do
-        cp -u "$(../../tools/library.sh "$crate")" "$ARENA_LIBS"
-    done
-fi
 
 # differ FOLDER WORDS..: builds the plain loop in a folder, and runs it.
 differ() {

@@ -1,8 +1,8 @@
 //! The arena's rules of places for memory that isn't the arena's: a cursor between two addresses of a program in C, and
 //! the chunks that such a program asks for if its arena grows.
 //!
-//! The functions compute addresses and sizes. None of them reads or writes the memory, or takes any. Every function takes any
-//! numbers, and returns a code; it changes something only if that is 0. `CALLING.md` has the codes.
+//! The functions compute numbers from any numbers, and neither use the memory nor take any. All but `arena_cursor_find`
+//! return a code, and change something only if that is 0. `CALLING.md` has the codes.
 #![tactic(auto)]
 
 ghost use Rattle.std.specs.Prelude.{◌≡◌, ◌≢◌, ◌+◌, ◌-◌, ◌%◌, ◌^◌, ◌≤◌, ◌&&◌, IsTrue, false, true, Some, None, nat_le, nat_lt, is_some};
@@ -28,35 +28,27 @@ pub use growing::Chunk;
 use growing::{request_after, request_for};
 pub use laws::{any_address, any_older};
 
-// The rule gives an address, which is returned.
+// The codes.
 const DONE: u32 = 0;
 
-// The rule has no place.
 const NO_PLACE: u32 = 1;
 
-// A size and an alignment are no layout.
 const BAD_LAYOUT: u32 = 2;
 
-// The three numbers of the cursor are in no order, or it starts at 0.
 const BAD_CURSOR: u32 = 3;
 
-// A block or a mark isn't in use, or a size or an address is out of range.
 const OUT_OF_RANGE: u32 = 4;
 
-// A block that the rule refuses to resize.
 const REFUSED: u32 = 5;
-
-// A block without a byte in the chunk that is allocated again.
+// A block without a byte in the chunk is allocated again, or stays.
 const ELSEWHERE: u32 = 6;
 
-// A block without a byte in the chunk that stays.
 const STAYS: u32 = 7;
 
 /// Returns where a block of this size and alignment, in bytes, is placed below a cursor, by the rule `place_below`.
 ///
-/// Returns 0 if there is no place, if size and alignment are no layout, if the start is 0, or if the least alignment is
-/// none of 1, 2, 4, 8 and 16. This is `arena_cursor_place` on numbers: a caller that keeps a valid cursor moves it to the
-/// result.
+/// Returns 0 if there is no place or layout, if the start is 0, or if the least alignment is none of 1, 2, 4, 8 and 16.
+/// This is `arena_cursor_place` on numbers: a caller that keeps a valid cursor moves it to the result.
 #[unsafe(no_mangle)]
 pub extern "C" fn arena_cursor_find(
     start: u64,
@@ -267,8 +259,7 @@ pub extern "C" fn arena_cursor_shrink(
 
 /// Moves the cursor back up to `mark`, an address at which it was: what was placed since is given back.
 ///
-/// Returns 0; 3 for a cursor that isn't valid; 4 if the mark is below the cursor, past the end, or no multiple of the
-/// least alignment.
+/// Returns 0; 3 for a cursor that isn't valid; 4 if the mark is below it, past the end, or not at the least alignment.
 #[unsafe(no_mangle)]
 #[tactic(auto, using(crate::proofs::PlaceLemmas::mark_valid))]
 pub extern "C" fn arena_cursor_back(at: &mut Cursor, mark: u64) -> u32
@@ -289,10 +280,7 @@ pub extern "C" fn arena_cursor_back(at: &mut Cursor, mark: u64) -> u32
     DONE
 }
 
-// ---- An arena that grows
-
-/// Writes the request for a chunk for a tried size and a block of this size and alignment, by the rule `size_for`. With
-/// the size of the block, and an alignment of 1, it is the one for an arena with this capacity.
+/// Writes the request for a chunk for a tried size and a block of this size and alignment, by the rule `size_for`.
 ///
 /// Returns 0; 1 if no chunk is that large; 2 if size and alignment are no layout; 4 if the tried size is 0.
 #[unsafe(no_mangle)]
@@ -353,8 +341,7 @@ pub extern "C" fn arena_cursor_next_chunk(
 
 /// Makes the cursor that of a new chunk with these bytes for blocks, with nothing in use.
 ///
-/// Returns 0; 4 if the base is 0, the end exceeds the last address, or it is no multiple of the least alignment, which is
-/// 1, 2, 4, 8 or 16.
+/// Returns 0; 4 if the base is 0, or the end exceeds the last address or is no multiple of the least alignment.
 #[unsafe(no_mangle)]
 #[tactic(auto, using(arena_rules::proofs::RoundingLemmas::min_align_power))]
 pub extern "C" fn arena_cursor_enter(at: &mut Cursor, base: u64, size: u64, min_align: u64) -> u32
