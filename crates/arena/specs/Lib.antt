@@ -23,8 +23,6 @@ pub use Rattle.arena_chunks.specs.Messages as BlockMessages
 pub use Rattle.arena_chunks.specs.Checkpoints
 pub use Rattle.arena_chunks.specs.Creating
 pub use Rattle.arena_chunks.specs.Asking as Requests
-pub use Rattle.arena_chunks.specs.Runs
-pub use Rattle.arena_chunks.specs.Runs.Replies
 pub use Rattle.arena_items.specs.Layout
 pub use Rattle.arena_items.specs.ByteForms
 pub use Rattle.arena_items.specs.LayoutLaws

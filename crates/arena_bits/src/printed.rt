@@ -6,7 +6,8 @@ ghost use Rattle.arena_bits.specs.Printed.{bits_in, digits, lower, highest, prin
 ghost use Rattle.arena_bits.specs.Walks.{words_in};
 
 use crate::set::BitSet;
-use arena_chunks::{Allocator, Bytes, ChunkSource, OutOfMemory};
+use arena_chunks::{Allocator, ChunkSource, OutOfMemory};
+use short_bytes::Bytes;
 use std::alloc::Global;
 
 // Appends the binary digits of a byte, the highest first.

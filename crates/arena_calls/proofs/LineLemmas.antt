@@ -1,7 +1,8 @@
 -- Lines of calls, one after another.
 use Rattle.std.proofs.Common.{◌≡◌, ◌≢◌, ℕ, true, false, List, [], ◌∷◌, ◌++◌, length, Option, Some, refl, sym, ap, ◌∙◌, subst, arith, length-append}
 use Rattle.std.specs.Prelude.{IfSome}
-use Rattle.call_rules.specs.Grammar.{lines_of, Fits, AreCalls, IsCall, IsFirstRefused, fields, hex, call_line}
+use Rattle.line_parts.specs.Numbers.{lines_of, fields, hex}
+use Rattle.call_rules.specs.Grammar.{Fits, AreCalls, IsCall, IsFirstRefused, call_line}
 use Rattle.call_rules.specs.declared.calls.Call.{Call}
 use Rattle.call_rules.specs.declared.calls.Call.TheVariants.{Alloc, Grow, Shrink, Dealloc, Write, Read, Mark, Back}
 use Rattle.line_parts.specs.Reads.{ReadsFront}

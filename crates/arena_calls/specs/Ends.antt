@@ -2,14 +2,15 @@
 use Rattle.std.specs.Prelude.{◌≡◌, ◌≢◌, ℕ, ◌+◌, ◌^◌, ◌<◌, ◌≤◌, List, [], ◌∷◌, length, codes, Option, ◌⊎◌, Result, Ok, Err}
 use Rattle.arena_rules.specs.State.{State}
 use Rattle.arena_rules.specs.Causes.{counted}
-use Rattle.call_rules.specs.Grammar.{CallsOf, number}
+use Rattle.line_parts.specs.Numbers.{number}
+use Rattle.call_rules.specs.Grammar.{CallsOf}
 use Rattle.call_rules.specs.Replies.{text_of}
 use Rattle.call_rules.specs.Generator.{gen_calls}
 use Rattle.call_rules.specs.Summary.{summary_of, summary_text}
 use Rattle.call_rules.specs.declared.calls.Call.{Call}
 use Rattle.call_rules.specs.declared.calls.Reply.{Reply}
 use Rattle.arena_chunks.specs.Source.{View}
-use Rattle.arena_chunks.specs.Runs.{Runs, RunsFirst}
+use Rattle.arena_runs.specs.Runs.{Runs, RunsFirst}
 use Rattle.arena_store.specs.declared.block.Block.{Block}
 use Rattle.arena_calls.specs.Streams.{Writes, WritesPart}
 use Rattle.arena_calls.specs.ReadAll.{limit, TakesFront, TakesWhole}

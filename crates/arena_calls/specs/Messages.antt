@@ -1,7 +1,7 @@
 -- What a program over calls writes to standard error.
 use Rattle.std.specs.Prelude.{◌≡◌, ℕ, List, [], ◌∷◌, ◌++◌, Option, ◌⊎◌, codes}
 use Rattle.arena_rules.specs.Causes.{counted}
-use Rattle.call_rules.specs.Grammar.{number}
+use Rattle.line_parts.specs.Numbers.{number}
 use Rattle.arena_calls.specs.Streams.{Writes, WritesPart}
 use Rattle.arena_calls.specs.declared.status.Status.{Status}
 use Rattle.arena_calls.specs.declared.status.Status.TheVariants.{Done, Usage, BadLine, OutOfMemory, ReadFault, WriteFault, InputTooLong}

@@ -2,8 +2,8 @@
 ghost use Rattle.std.specs.Prelude.{◌≡◌, ◌∷◌, [], IsTrue, ◌↔◌};
 ghost use Rattle.arena_calls.specs.Arguments.{IsAskedFor};
 
-use arena_chunks::Bytes;
 use line_parts::whole_number;
+use short_bytes::Bytes;
 
 // The most calls of a run from a number.
 const MOST_CALLS: u64 = 1_000_000;

@@ -1,11 +1,11 @@
 // Replies as the text of their lines.
 ghost use Rattle.std.specs.Prelude.{◌≡◌, ℕ, ◌+◌, ◌*◌, ◌-◌, ◌/◌, ◌++◌, ◌∷◌, [], ◌≤◌, false, IsOk, OnOk, length, codes, vec_len, vec_capacity};
-ghost use Rattle.call_rules.specs.Grammar.{fields};
+ghost use Rattle.line_parts.specs.Numbers.{fields};
 ghost use Rattle.call_rules.specs.Replies.{reply_line, text_of};
-ghost use Rattle.arena_chunks.specs.Runs.Replies.{has_bytes};
+ghost use Rattle.arena_runs.specs.Replies.{has_bytes};
 
-use arena_chunks::Replies;
 use arena_rules::OutOfMemory;
+use arena_runs::Replies;
 use call_rules::Reply;
 use itoa::Buffer;
 pub use line_parts::put;

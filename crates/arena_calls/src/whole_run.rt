@@ -2,7 +2,7 @@
 ghost use Rattle.std.specs.Prelude.{◌≡◌, ℕ, List, Option, IfOk, IfErr, OnOk};
 ghost use Rattle.call_rules.specs.declared.calls.Reply.{Reply};
 ghost use Rattle.arena_chunks.specs.Source.{view};
-ghost use Rattle.arena_chunks.specs.Runs.Replies.{TakesMore};
+ghost use Rattle.arena_runs.specs.Replies.{TakesMore};
 ghost use Rattle.arena_calls.specs.Ends.{Ends, EndsBy, EndsUnwritten, RunsInput, outside};
 
 use crate::arguments::{Command, asked_for};
@@ -12,8 +12,10 @@ use crate::printing::print;
 use crate::replies::Text;
 use crate::status::Status;
 use crate::streams::{Input, Output, ReadErr, read_all};
-use arena_chunks::{Arena, Block, Bytes, ChunkSource, Replies, run_calls_into};
+use arena_chunks::{Arena, Block, ChunkSource};
+use arena_runs::{Replies, run_calls_into};
 use line_parts::LinesErr;
+use short_bytes::Bytes;
 use std::alloc::Global;
 
 /// Reads all of the input as calls, and runs them on the arena. Returns the blocks that names hold afterwards.

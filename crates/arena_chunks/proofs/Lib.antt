@@ -4,5 +4,4 @@ mod MeasureLemmas
 mod UsedByCallLemmas
 mod AskingLemmas
 mod CheckpointLemmas
-mod RunLemmas
 pub mod Layers

@@ -17,5 +17,4 @@ pub use Rattle.arena_core.specs.Creating
 pub use Rattle.arena_core.specs.Walks
 pub use Rattle.arena_core.specs.BlockLends
 pub mod Asking
-pub mod Runs
 pub mod AllocatorLends

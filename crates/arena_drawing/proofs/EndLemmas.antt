@@ -9,7 +9,7 @@ use Rattle.call_rules.specs.declared.calls.Call.{Call}
 use Rattle.call_rules.specs.declared.calls.Reply.{Reply}
 use Rattle.arena_chunks.specs.Source.{View}
 use Rattle.arena_chunks.specs.Memory.{block_at}
-use Rattle.arena_chunks.specs.Runs.{Runs, RunsFirst, RunLeaves}
+use Rattle.arena_runs.specs.Runs.{Runs, RunsFirst, RunLeaves}
 use Rattle.arena_store.specs.declared.block.Block.{Block}
 use Rattle.arena_calls.specs.Ends.{Outside, IsWritten}
 use Rattle.arena_drawing.specs.Ends.{picture_of, HasPlace, RunsToPicture}

@@ -6,7 +6,7 @@ use Rattle.arena_rules.specs.declared.place.Place.{Place}
 use Rattle.call_rules.specs.declared.calls.Call.{Call}
 use Rattle.call_rules.specs.declared.calls.Reply.{Reply}
 use Rattle.arena_chunks.specs.Memory.{block_at}
-use Rattle.arena_chunks.specs.Runs.{Runs}
+use Rattle.arena_runs.specs.Runs.{Runs}
 use Rattle.arena_chunks.specs.Walks.{told_chunk}
 use Rattle.arena_store.specs.declared.block.Block.{Block}
 use Rattle.arena_calls.specs.Ends.{Outside, IsWritten, EndsWith}

@@ -22,8 +22,8 @@ use arena_items::{AllocError, Grown};
 use arena_rules::OutOfMemory;
 use arena_tree::{Kind, Node, kids};
 use arena_vec::Vec;
-use call_rules::Bytes;
 use lint_reports::{FindKind, TakesFindings};
+use short_bytes::Bytes;
 use std::alloc::Global;
 use std::str;
 

@@ -9,7 +9,7 @@ use Rattle.call_rules.specs.declared.calls.Reply.{Reply}
 use Rattle.arena_store.specs.Memory.{Memory}
 use Rattle.arena_store.specs.Source.{Source, View, view}
 use Rattle.arena_store.specs.declared.block.Block.{Block}
-use Rattle.arena_chunks.specs.Runs.{Runs}
+use Rattle.arena_runs.specs.Runs.{Runs}
 use Rattle.arena_calls.specs.Ends.{Outside, RunsInput, RunsTo, Ends, outside, reply_lines, summary_lines}
 use Rattle.arena_calls.specs.ReadAll.{limit}
 use Rattle.arena_calls.specs.declared.status.Status.{Status}

@@ -17,7 +17,7 @@ use Rattle.call_rules.specs.Replies.{text_of}
 use Rattle.call_rules.proofs.ReadingLemmas.{same_reading}
 use Rattle.arena_store.specs.Source.{Source, View}
 use Rattle.arena_store.specs.declared.block.Block.{Block}
-use Rattle.arena_chunks.specs.Runs.{Runs, held_blocks}
+use Rattle.arena_runs.specs.Runs.{Runs, held_blocks}
 use Rattle.arena_calls.specs.Ends.{summary_lines}
 use Rattle.arena_calls.specs.declared.status.Status.TheVariants.{Done}
 use Rattle.arena_drawing.specs.Ends.{picture_of}

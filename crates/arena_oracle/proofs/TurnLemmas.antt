@@ -10,8 +10,8 @@ use Rattle.call_rules.specs.declared.calls.Call.{Call}
 use Rattle.call_rules.specs.declared.calls.Reply.{Reply}
 use Rattle.call_rules.proofs.GeneratorLemmas.{generated_count}
 use Rattle.arena_store.specs.Source.{Source, View, IsAsked}
-use Rattle.arena_chunks.specs.Runs.Running.{IsRunning}
-use Rattle.arena_chunks.specs.Runs.Marks.{Noted}
+use Rattle.arena_runs.specs.Running.{IsRunning}
+use Rattle.arena_runs.specs.Marks.{Noted}
 use Rattle.arena_calls.proofs.GeneratingLemmas.{calls_first}
 use Rattle.arena_oracle.specs.Limits.{KeepsThose, refused_by, refusals_of, given, reported, limited}
 use Rattle.arena_oracle.specs.Sources.{source_of}

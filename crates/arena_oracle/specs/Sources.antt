@@ -2,7 +2,7 @@
 use Rattle.std.specs.Prelude.{◌≡◌, ℕ, ◌⊎◌, List}
 use Rattle.call_rules.specs.declared.calls.Call.{Call}
 use Rattle.arena_store.specs.Source.{Source, View}
-use Rattle.arena_chunks.specs.Runs.{RunsFirst}
+use Rattle.arena_runs.specs.Runs.{RunsFirst}
 use Rattle.arena_oracle.specs.Limits.{reported}
 use Rattle.arena_oracle.specs.declared.source.ListedChunks.{ListedChunks}
 

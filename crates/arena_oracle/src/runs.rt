@@ -2,7 +2,7 @@
 ghost use Rattle.std.specs.Prelude.{◌≡◌, ℕ, ◌^◌, ◌<◌, ◌≤◌, false, List, [], length, Some, IfOk, IfErr, IsErrAnd};
 ghost use Rattle.call_rules.specs.declared.calls.Reply.{Reply};
 ghost use Rattle.arena_store.specs.Source.{view};
-ghost use Rattle.arena_chunks.specs.Runs.Replies.{TakesMore};
+ghost use Rattle.arena_runs.specs.Replies.{TakesMore};
 ghost use Rattle.arena_calls.specs.Ends.{RunsInput, outside};
 ghost use Rattle.arena_calls.specs.ReadAll.{limit};
 ghost use Rattle.arena_calls.specs.declared.status.Status.{Status};
@@ -13,8 +13,9 @@ ghost use Rattle.arena_oracle.specs.Answers.{CallsWithin, DrawsWithin, GenWithin
 use crate::source::ListedChunks;
 use crate::within::{run_calls_within, run_generated_within};
 use arena_calls::{LinesErr, Status, Text, parse_calls, put_summary, room_for_text};
-use arena_chunks::{Arena, Block, Replies};
+use arena_chunks::{Arena, Block};
 use arena_drawing::picture_of;
+use arena_runs::Replies;
 use std::alloc::Global;
 
 // How many bytes lines may have.

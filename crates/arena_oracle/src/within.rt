@@ -4,15 +4,16 @@ ghost use Rattle.call_rules.specs.Generator.{gen_calls};
 ghost use Rattle.call_rules.specs.declared.calls.Reply.{Reply};
 ghost use Rattle.arena_store.specs.Source.{view};
 ghost use Rattle.arena_store.specs.declared.block.Block.{Block};
-ghost use Rattle.arena_chunks.specs.Runs.{Runs};
-ghost use Rattle.arena_chunks.specs.Runs.Replies.{TakesMore};
+ghost use Rattle.arena_runs.specs.Runs.{Runs};
+ghost use Rattle.arena_runs.specs.Replies.{TakesMore};
 ghost use Rattle.arena_calls.specs.Tallies.{IsTally};
 ghost use Rattle.arena_oracle.specs.Limits.{KeepsThose};
 ghost use Rattle.arena_oracle.specs.Sources.{source_of, StopsEarly};
 
 use crate::source::ListedChunks;
 use arena_calls::{Draws, Tally};
-use arena_chunks::{Arena, Block, OutOfMemory, Replies, Run};
+use arena_chunks::{Arena, Block, OutOfMemory};
+use arena_runs::{Replies, Run};
 use call_rules::Call;
 use std::alloc::Global;
 

@@ -1,7 +1,7 @@
 -- The words of the program, one after another.
 use Rattle.std.proofs.Common.{◌≡◌, ◌≢◌, ℕ, ◌%◌, ◌<◌, ◌≤◌, List, [], ◌∷◌, Some, None, get_or, refl, sym, ap, ◌∙◌, arith, codes}
 use Rattle.std.proofs.lemmas.Option.{some_pair_parts}
-use Rattle.call_rules.specs.Grammar.{number}
+use Rattle.line_parts.specs.Numbers.{number}
 use Rattle.line_parts.proofs.ReadingLemmas.{number_same}
 use Rattle.arena_pool.specs.Kinds.{HasLimit, HasRegions}
 use Rattle.arena_program.specs.PoolEnds.{kind_of, limit_of}

@@ -3,7 +3,7 @@ use Rattle.std.proofs.Common.{◌≡◌, ℕ, ◌+◌, List, [], ◌∷◌, ◌+
 use Rattle.std.specs.Prelude.{Result, Ok, Err, IfOk}
 use Rattle.std.specs.List.{flat_map}
 use Rattle.std.proofs.lemmas.Grind.{flat_map-append}
-use Rattle.call_rules.specs.Grammar.{with_feed}
+use Rattle.line_parts.specs.Numbers.{with_feed}
 use Rattle.script_rules.specs.Outcomes.{told, outcome_lines, lines_from}
 use Rattle.script_rules.specs.declared.outcome.Outcome.{Outcome}
 use Rattle.arena_chunks.specs.Source.{Source}

@@ -2,7 +2,7 @@
 use Rattle.std.specs.Prelude.{◌≡◌, ◌≢◌, ℕ, ◌%◌, ◌^◌, ◌-◌, ◌≤◌, List, [], ◌∷◌, Option, IfSome, MatchOption, Some, codes}
 use Rattle.std.specs.Option.{option_map}
 use Rattle.std.specs.Borrow.{Bor}
-use Rattle.call_rules.specs.Grammar.{number}
+use Rattle.line_parts.specs.Numbers.{number}
 use Rattle.arena_program.specs.declared.tasks.Lender.{Lender}
 use Rattle.arena_program.specs.declared.tasks.Lender.TheVariants.{Standard, Keeping, Fixed}
 use Rattle.arena_program.specs.declared.tasks.Task.{Task}

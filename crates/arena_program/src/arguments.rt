@@ -4,7 +4,7 @@ ghost use Rattle.std.specs.IoError.{error_kind};
 ghost use Rattle.arena_program.specs.Program.{words_of, status_without};
 
 use arena_calls::Status;
-use arena_chunks::Bytes;
+use short_bytes::Bytes;
 use std::alloc::{AllocError, Global};
 use std::env::Args;
 use std::io;

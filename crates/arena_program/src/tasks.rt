@@ -2,8 +2,8 @@
 ghost use Rattle.std.specs.Prelude.{ℕ, List, ◌∷◌, ◌≡◌, ◌≢◌, ◌≤◌, MatchOption};
 ghost use Rattle.arena_program.specs.Words.{ReadsWord, NamesLender, AsksTask, AsksLinters};
 
-use arena_chunks::Bytes;
 use line_parts::whole_number;
+use short_bytes::Bytes;
 
 /// Which pool lends the arenas that scripts run on.
 #[derive(Clone, Copy, Debug)]

@@ -15,10 +15,11 @@ use crate::kinds::set_of;
 use crate::thing::Thing;
 use arena_bits::BitSet;
 use arena_bits::laws::{filled_law, limit_law};
-use arena_chunks::{Allocator, Bytes, ChunkSource};
+use arena_chunks::{Allocator, ChunkSource};
 use arena_items::laws::frame_law;
 use arena_items::{AllocError, Grown};
 use script_rules::{Command, Names, Numbers, ScriptReply};
+use short_bytes::Bytes;
 use std::alloc::Global;
 
 // Whether a set has a word for a bit.

@@ -12,12 +12,13 @@ ghost use Rattle.arena_script.specs.Acts.{Acts};
 use crate::act::{Act, found};
 use crate::kinds::text_of;
 use crate::thing::Thing;
-use arena_chunks::{Allocator, Bytes, ChunkSource};
+use arena_chunks::{Allocator, ChunkSource};
 use arena_clone::{CloneIn, CloneInSemanticIds};
 use arena_items::{AllocError, Grown};
 use arena_text::StringBuilder;
 use arena_text::laws::{growth_rule, length_rule};
 use script_rules::{Command, Names, ScriptReply};
+use short_bytes::Bytes;
 use std::alloc::Global;
 
 /// The most bytes of a text.

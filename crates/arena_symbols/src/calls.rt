@@ -6,7 +6,7 @@ ghost use Rattle.arena_symbols.specs.Serving.{Serves, Ran, Stops};
 use crate::names::Names;
 use arena_chunks::{Allocator, ChunkSource};
 use arena_items::{AllocError, Grown};
-use call_rules::Bytes;
+use short_bytes::Bytes;
 use std::alloc::Global;
 
 /// A call on the names of a program.

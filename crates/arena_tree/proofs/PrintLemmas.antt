@@ -2,7 +2,7 @@
 use Rattle.std.proofs.lemmas.Bool.Decides.{nat_tests}
 use Rattle.std.proofs.Common.{◌≡◌, ℕ, suc, ◌+◌, ap, sym, refl, ◌∙◌, Bool, true, false, List, [], ◌∷◌, ◌++◌, drop, append_assoc, append-nil, add-one, arith}
 use Rattle.std.specs.Prelude.{codes, ◌==◌}
-use Rattle.call_rules.specs.Grammar.{number}
+use Rattle.line_parts.specs.Numbers.{number}
 use Rattle.arena_chunks.specs.Memory.{Memory}
 use Rattle.arena_items.specs.Values.{text_bytes}
 use Rattle.tree_rules.specs.Trees.{Expr, Num, Name, Neg, Sum, Prod, Exprs, NoExprs, And, AsExpr, AsTerm, AsFactor, expr_text, terms_text, more_terms_text, factors_text, more_factors_text, sum_text, product_text, Let, Show, Stmts, NoStmts, Then, stmt_text, text}

@@ -18,7 +18,7 @@ use arena_chunks::{Allocator, ChunkSource};
 use arena_items::AllocError;
 use arena_rules::OutOfMemory;
 use arena_vec::Vec;
-use call_rules::Bytes;
+use short_bytes::Bytes;
 use std::alloc::Global;
 use tree_nodes::Node;
 use tree_reader::refusal;

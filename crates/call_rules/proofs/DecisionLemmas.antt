@@ -5,41 +5,12 @@ use Rattle.std.specs.Bool.{Decides}
 use Rattle.std.specs.List.{AllByRecursion}
 use Rattle.std.specs.Cmp.Lexicographic.{pointwise, bytes_decides}
 use Rattle.std.proofs.lemmas.Bool.Decides.{Decides-ltb, not_from_Decides}
-use Rattle.call_rules.specs.Grammar.{call_line, IsByte, Fits, IsCall, AreCalls, IsFirstRefused, CallsOf, lines_of}
+use Rattle.line_parts.specs.Numbers.{IsByte, lines_of}
+use Rattle.call_rules.specs.Grammar.{call_line, Fits, IsCall, AreCalls, IsFirstRefused, CallsOf}
 use Rattle.call_rules.specs.declared.calls.Call.{Call}
 use Rattle.call_rules.specs.declared.calls.Call.TheVariants.{Alloc, Grow, Shrink, Dealloc, Write, Read, Mark, Back}
+use Rattle.line_parts.proofs.DecisionLemmas.{Decided, turned, three, four, both, below, are_bytes, same}
 use Rattle.call_rules.proofs.ReadingLemmas.{read_call, read_call_back}
-
-abbrev pub Decided : Type 0 → Type 0
-Decided P = P ⊎ (P → ⊥)
-
--- what a test decides
-tested : {P : Type 0} (r : Bool) → Decides r P → Decided P
-tested true d = inl (d.0 refl)
-tested false d = inr (not_from_Decides false d refl)
-
-pub both : {P Q : Type 0} → Decided P → Decided Q → Decided (P × Q)
-both (inl p) (inl q) = inl (p, q)
-both (inl p) (inr none) = inr (λ h. none h.1)
-both (inr none) q = inr (λ h. none h.0)
-
--- two facts that follow from each other
-turned : {P Q : Type 0} → (P → Q) → (Q → P) → Decided P → Decided Q
-turned to back (inl p) = inl (to p)
-turned to back (inr none) = inr (λ q. none (back q))
-
-three : {P Q R : Type 0} → Decided P → Decided Q → Decided R → Decided (P × Q × R)
-three p q r = turned (λ h. (h.0, h.1.0, h.1.1)) (λ h. (h.0, (h.1, h.2))) (both p (both q r))
-
-four : {P Q R S : Type 0} → Decided P → Decided Q → Decided R → Decided S → Decided (P × Q × R × S)
-four p q r s = turned (λ h. (h.0.0, h.0.1, h.1.0, h.1.1)) (λ h. ((h.0, h.1), (h.2, h.3))) (both (both p q) (both r s))
-
-pub below : (n m : ℕ) → Decided (n < m)
-below n m = tested (nat_lt n m) (Decides-ltb n m)
-
-pub are_bytes : (bytes : List ℕ) → Decided (AllByRecursion IsByte bytes)
-are_bytes [] = inl tt
-are_bytes (b ∷ bytes) = both (below b (2 ^ 8)) (are_bytes bytes)
 
 fits : (call : Call) → Decided (Fits call)
 fits (Alloc name size align fill) = four (below name (2 ^ 32)) (below size (2 ^ 64)) (below align (2 ^ 64)) (below fill (2 ^ 8))
@@ -51,9 +22,6 @@ fits (Read name) = below name (2 ^ 32)
 fits (Mark name) = below name (2 ^ 32)
 fits (Back name) = below name (2 ^ 32)
 fits _ = inl tt
-
-pub same : (xs ys : List ℕ) → Decided (xs ≡ ys)
-same xs ys = tested (pointwise nat_eq xs ys) (bytes_decides xs ys)
 
 -- a line is a call, or none is
 decided_call : (line : List ℕ) → Decided ((call : Call) × IsCall line call)

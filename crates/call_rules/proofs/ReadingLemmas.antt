@@ -1,10 +1,11 @@
 -- Bytes have at most one reading.
 use Rattle.std.proofs.Common.{◌≡◌, ℕ, suc, ◌+◌, List, [], ◌∷◌, ◌++◌, length, drop, get_or, refl, sym, ap, ◌∙◌, subst, append_assoc, codes, Ok, Err}
 use Rattle.std.specs.Prelude.{Result}
-use Rattle.call_rules.specs.Grammar.{fields, hex, call_line, Fits, IsRefused, AreCalls, CallsOf, lines_of}
+use Rattle.line_parts.specs.Numbers.{fields, hex, lines_of}
+use Rattle.call_rules.specs.Grammar.{call_line, Fits, IsRefused, AreCalls, CallsOf}
 use Rattle.call_rules.specs.declared.calls.Call.{Call}
 use Rattle.call_rules.specs.declared.calls.Call.TheVariants.{Alloc, Grow, Shrink, Dealloc, Write, Read, Mark, Back, Reset, Used, Allocated}
-use Rattle.call_rules.proofs.LineLemmas.{read_by, read_fields, read_fields_back, read_field, read_field_back, read_hex, read_hex_back}
+use Rattle.line_parts.proofs.FieldLemmas.{read_by, read_fields, read_fields_back, read_field, read_field_back, read_hex, read_hex_back}
 
 abbrev pub alloc_of : List ℕ → Call
 alloc_of ns = Alloc (get_or ns 0 0) (get_or ns 1 0) (get_or ns 2 0) (get_or ns 3 0)

@@ -13,7 +13,8 @@ use Rattle.arena_rules.specs.Moves.{alloc}
 use Rattle.call_rules.specs.Machine.{Machine, Next, Contents, step, run, fresh, mark_named, is_left}
 use Rattle.arena_rules.specs.Lists.{splice}
 use Rattle.arena_rules.specs.Back.{back}
-use Rattle.call_rules.specs.Grammar.{IsByte, Fits, AreCalls}
+use Rattle.line_parts.specs.Numbers.{IsByte}
+use Rattle.call_rules.specs.Grammar.{Fits, AreCalls}
 use Rattle.call_rules.specs.Replies.{HasBytes}
 use Rattle.call_rules.specs.declared.calls.Call.{Call}
 use Rattle.call_rules.specs.declared.calls.Call.TheVariants.{Alloc, Grow, Shrink, Dealloc, Write, Read, Mark, Back, Reset, Used, Allocated}
@@ -21,7 +22,7 @@ use Rattle.call_rules.specs.declared.calls.Reply.{Reply}
 use Rattle.call_rules.specs.declared.calls.Reply.TheVariants.{Bytes}
 use Rattle.call_rules.proofs.CallSteps.{Leaves, Keeps, Settles, answered, told, unless, layout_given, found, marked, run_by_steps}
 use Rattle.arena_rules.proofs.ListLemmas.{all_append, all_take}
-use Rattle.call_rules.proofs.HeldLemmas.{less_removed}
+use Rattle.name_map.proofs.EntryLemmas.{less_removed}
 
 -- ---- Lists of bytes
 

@@ -1,9 +1,9 @@
 -- The lines of a summary determine its numbers.
 use Rattle.std.proofs.Common.{◌≡◌, ℕ, List, [], ◌∷◌, ◌++◌, drop, refl, sym, ap, ◌∙◌, append_assoc, codes}
 use Rattle.std.proofs.lemmas.List.{append_cancel_left}
-use Rattle.call_rules.specs.Grammar.{fields}
+use Rattle.line_parts.specs.Numbers.{fields}
 use Rattle.call_rules.specs.Summary.{Summary, number_line, summary_text}
-use Rattle.call_rules.proofs.LineLemmas.{read_field, read_field_back}
+use Rattle.line_parts.proofs.FieldLemmas.{read_field, read_field_back}
 
 line_split : (word : List ℕ) (n : ℕ) (rest : List ℕ) → number_line (word, n) ++ rest ≡ word ++ (fields (n ∷ []) ++ 10 ∷ rest)
 line_split word n rest = append_assoc word (fields (n ∷ []) ++ 10 ∷ []) rest

@@ -1,11 +1,11 @@
 -- A text of replies belongs to one list of replies.
 use Rattle.std.proofs.Common.{◌≡◌, ℕ, List, [], ◌∷◌, ◌++◌, length, length-append, drop, refl, sym, ap, ◌∙◌, arith, append_assoc, codes}
 use Rattle.std.specs.List.{AllByRecursion}
-use Rattle.call_rules.specs.Grammar.{with_feed, fields}
+use Rattle.line_parts.specs.Numbers.{with_feed, fields}
 use Rattle.call_rules.specs.Replies.{reply_line, text_of, HasBytes}
 use Rattle.call_rules.specs.declared.calls.Reply.{Reply}
 use Rattle.call_rules.specs.declared.calls.Reply.TheVariants.{Placed, Done, Bytes, Number, AllocErr, NoSuchName, NameTaken, BadLayout, OutOfRange}
-use Rattle.call_rules.proofs.LineLemmas.{read_by, read_field, read_field_back, read_hex, read_hex_back}
+use Rattle.line_parts.proofs.FieldLemmas.{read_by, read_field, read_field_back, read_hex, read_hex_back}
 
 -- from an address on: the number of refusals, after a word
 abbrev read_refused : (ℕ → Reply) × List ℕ → Reply × List ℕ

@@ -1,6 +1,7 @@
 -- Lines of calls and replies, as examples.
 use Rattle.std.proofs.Common.{◌≡◌, refl, codes, [], ◌∷◌}
-use Rattle.call_rules.specs.Grammar.{digits, number, call_line}
+use Rattle.line_parts.specs.Numbers.{digits, number}
+use Rattle.call_rules.specs.Grammar.{call_line}
 use Rattle.call_rules.specs.Replies.{reply_line}
 use Rattle.call_rules.specs.declared.calls.Call.TheVariants.{Write}
 use Rattle.call_rules.specs.declared.calls.Reply.TheVariants.{Placed}

@@ -6,5 +6,3 @@ pub mod Grammar
 pub mod Replies
 pub mod Generator
 pub mod Summary
-pub mod Held
-pub mod Names

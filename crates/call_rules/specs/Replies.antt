@@ -1,7 +1,7 @@
 -- The lines of replies.
 use Rattle.std.specs.Prelude.{ℕ, List, [], ◌∷◌, ◌++◌, codes}
 use Rattle.std.specs.List.{flat_map, AllByRecursion}
-use Rattle.call_rules.specs.Grammar.{fields, hex, with_feed, IsByte}
+use Rattle.line_parts.specs.Numbers.{fields, hex, with_feed, IsByte}
 use Rattle.call_rules.specs.declared.calls.Reply.{Reply}
 use Rattle.call_rules.specs.declared.calls.Reply.TheVariants.{Placed, Done, Bytes, Number, AllocErr, NoSuchName, NameTaken, BadLayout, OutOfRange}
 

@@ -3,7 +3,7 @@ use Rattle.std.specs.Prelude.{ℕ, Bool, true, false, List, [], ◌∷◌, ◌++
 use Rattle.std.specs.List.{filter, flat_map}
 use Rattle.arena_rules.specs.State.{State, used_bytes, allocated_bytes}
 use Rattle.call_rules.specs.Counts.{is_placed}
-use Rattle.call_rules.specs.Grammar.{fields}
+use Rattle.line_parts.specs.Numbers.{fields}
 use Rattle.call_rules.specs.declared.calls.Reply.{Reply}
 use Rattle.call_rules.specs.declared.calls.Reply.TheVariants.{Bytes, AllocErr, NoSuchName, NameTaken, BadLayout, OutOfRange}
 

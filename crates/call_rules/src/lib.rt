@@ -4,13 +4,8 @@
 //! use, and the laws that show what the definitions mean. `CALLING.md` says which to cite.
 #![tactic(auto)]
 
-mod bytes;
 mod calls;
 pub mod laws;
-mod names;
-mod short;
 
-pub use bytes::Bytes;
 pub use calls::{Call, Reply};
 pub use laws::{one_reading, one_text, run_texts, some_reading};
-pub use names::Names;

@@ -4,7 +4,7 @@ use Rattle.std.specs.List.{AllByRecursion, flat_map}
 use Rattle.std.proofs.lemmas.Bool.Decides.{nat_tests}
 use Rattle.std.proofs.lemmas.Grind.{flat_map-append}
 use Rattle.arena_rules.proofs.ListLemmas.{all_append}
-use Rattle.call_rules.specs.Grammar.{hex, hex_digit, hex_pair, IsByte}
+use Rattle.line_parts.specs.Numbers.{hex, hex_digit, hex_pair, IsByte}
 use Rattle.line_parts.specs.Reads.{is_word_end, ReadsFront, HasNoPair}
 
 -- these bytes were read, and this is left

@@ -1,3 +1,6 @@
+pub mod NumberLemmas
+pub mod FieldLemmas
+pub mod DecisionLemmas
 pub mod ReadingLemmas
 pub mod HexLemmas
 pub mod PrintingLemmas

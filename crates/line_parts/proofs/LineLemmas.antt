@@ -6,8 +6,8 @@ use Rattle.std.proofs.lemmas.List.Splits.{slice_split-cons_yes, slice_split-cons
 use Rattle.std.proofs.lemmas.Bool.{or_parts, or_from}
 use Rattle.std.proofs.lemmas.Bool.Decides.{nat_tests}
 use Rattle.std.proofs.lemmas.Option.{some_pair_parts}
-use Rattle.call_rules.specs.Grammar.{lines_of, number, fields, hex, hex_digit, hex_pair}
-use Rattle.call_rules.proofs.NumberLemmas.{number_by_steps}
+use Rattle.line_parts.specs.Numbers.{lines_of, number, fields, hex, hex_digit, hex_pair}
+use Rattle.line_parts.proofs.NumberLemmas.{number_by_steps}
 use Rattle.line_parts.specs.Reads.{is_word_end, ReadsFront}
 use Rattle.line_parts.specs.Lines.{is_line_end, lines_behind, TakesLine, RefusesLine}
 

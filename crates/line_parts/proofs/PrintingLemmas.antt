@@ -3,8 +3,8 @@ use Rattle.std.proofs.Common.{◌≡◌, ℕ, ◌+◌, ◌^◌, ◌%◌, ◌<◌
 use Rattle.std.specs.Fmt.{decimal}
 use Rattle.std.proofs.lemmas.Fmt.{decimal_digit, decimal_step_wide}
 use Rattle.std.proofs.lemmas.List.{append-nil}
-use Rattle.call_rules.specs.Grammar.{fields, number}
-use Rattle.call_rules.proofs.NumberLemmas.{number_by_steps}
+use Rattle.line_parts.specs.Numbers.{fields, number}
+use Rattle.line_parts.proofs.NumberLemmas.{number_by_steps}
 
 -- a number of more than 64 bits too
 number-decimal_wide : (n : ℕ) → n < 10 ^ 64 → number n ≡ decimal n

@@ -7,8 +7,8 @@ use Rattle.std.proofs.lemmas.List.{take_rest, get_or_append_left, append-nil}
 use Rattle.std.proofs.Math.ListN.{drop_of_length-le}
 use Rattle.std.proofs.Math.Seq.{drop-length}
 use Rattle.std.proofs.lemmas.Bool.Decides.{nat_tests}
-use Rattle.call_rules.specs.Grammar.{number}
-use Rattle.call_rules.proofs.NumberLemmas.{number-decimal, number_nonempty, first_number, read_front, read_number, read_number_on, Stops}
+use Rattle.line_parts.specs.Numbers.{number}
+use Rattle.line_parts.proofs.NumberLemmas.{number-decimal, number_nonempty, first_number, read_front, read_number, read_number_on, Stops}
 use Rattle.std.proofs.lemmas.Option.{none-some, some_pair_parts}
 use Rattle.line_parts.specs.Reads.{is_word_end, ReadsFront, IsNumber}
 

@@ -2,7 +2,7 @@
 use Rattle.std.specs.Prelude.{◌≡◌, ◌≢◌, ℕ, ◌≤◌, ◌==◌, ◌||◌, Bool, true, IsTrue, Option, Some, None, IfSome, List, [], ◌∷◌, ◌++◌}
 use Rattle.std.specs.Option.{option_map}
 use Rattle.std.specs.Borrow.{Bor}
-use Rattle.call_rules.specs.Grammar.{IsByte, number, hex_pair}
+use Rattle.line_parts.specs.Numbers.{IsByte, number, hex_pair}
 
 -- a word ends before these bytes
 abbrev pub is_word_end : List ℕ → Bool

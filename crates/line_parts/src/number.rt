@@ -1,6 +1,6 @@
 // Reads numbers from the front of a line.
 ghost use Rattle.std.specs.Prelude.{◌<◌, ◌≤◌, ◌^◌, ◌-◌, ◌++◌, ◌∷◌};
-ghost use Rattle.call_rules.specs.Grammar.{number};
+ghost use Rattle.line_parts.specs.Numbers.{number};
 ghost use Rattle.line_parts.specs.Reads.{Reads, IsNumber};
 
 // The number that the digits of `n`, and then those at the front, spell.

@@ -5,7 +5,7 @@ use Rattle.std.specs.List.{flat_map}
 use Rattle.std.proofs.lemmas.List.{append-nil}
 use Rattle.std.proofs.lemmas.Grind.{flat_map-append}
 use Rattle.std.proofs.lemmas.List.Folds.{flat_map-map}
-use Rattle.call_rules.specs.Grammar.{fields, with_feed}
+use Rattle.line_parts.specs.Numbers.{fields, with_feed}
 use Rattle.tree_rules.specs.declared.finding.Finding.{Finding}
 use Rattle.lint_reports.specs.Reports.{finding_line, report_text, source_lines, lines_from}
 use Rattle.lint_reports.specs.Room.{fed_finding}

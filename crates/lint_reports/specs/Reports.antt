@@ -1,7 +1,7 @@
 -- What a report says of its source, and the lines of reports.
 use Rattle.std.specs.Prelude.{ℕ, ◌+◌, List, [], ◌∷◌, ◌++◌, map, codes, Option, None, Some, IfSome, Result, Ok, Err}
 use Rattle.std.specs.List.{flat_map}
-use Rattle.call_rules.specs.Grammar.{fields, with_feed}
+use Rattle.line_parts.specs.Numbers.{fields, with_feed}
 use Rattle.tree_rules.specs.Report.{IsReport}
 use Rattle.tree_rules.specs.declared.refused.Refused.{Refused as Reason}
 use Rattle.tree_rules.specs.declared.refused.Refused.TheVariants as reason

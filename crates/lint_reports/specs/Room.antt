@@ -2,7 +2,7 @@
 use Rattle.std.specs.Prelude.{ℕ, ◌+◌, List, length}
 use Rattle.line_parts.specs.Room.{rooms}
 use Rattle.tree_rules.specs.declared.finding.Finding.{Finding}
-use Rattle.call_rules.specs.Grammar.{with_feed}
+use Rattle.line_parts.specs.Numbers.{with_feed}
 use Rattle.lint_reports.specs.Reports.{finding_line}
 use Rattle.lint_reports.specs.declared.report.FileReport.{FileReport}
 use Rattle.lint_reports.specs.declared.report.FileReport.TheVariants.{Checked, Syntax, TooDeep, NumberTooBig, Full, Refused, OutOfMemory}

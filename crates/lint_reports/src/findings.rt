@@ -2,7 +2,7 @@
 ghost use Rattle.std.specs.Prelude.{◌≡◌, [], ◌∷◌, ◌++◌, length, OnOk, OnErr};
 
 use arena_rules::OutOfMemory;
-use call_rules::Bytes;
+use short_bytes::Bytes;
 use std::alloc::Global;
 use std::marker::Model;
 use tree_rules::{FindKind, Finding};

@@ -2,7 +2,7 @@
 ghost use Rattle.std.specs.Prelude.{◌≡◌, ◌+◌, ◌^◌, ◌++◌, ◌∷◌, [], ◌<◌, ◌≤◌, OnOk, OnErr, length, vec_len, vec_capacity};
 ghost use Rattle.std.specs.Option.{SomeIff};
 ghost use Rattle.std.specs.List.{flat_map};
-ghost use Rattle.call_rules.specs.Grammar.{fields, with_feed};
+ghost use Rattle.line_parts.specs.Numbers.{fields, with_feed};
 ghost use Rattle.tree_rules.specs.Report.{finding};
 ghost use Rattle.lint_reports.specs.Reports.{report_lines, report_text, kind_word};
 ghost use Rattle.lint_reports.specs.Room.{finding_room, findings_room, fed_finding};

@@ -2,8 +2,8 @@
 use crate::findings::Findings;
 use crate::printing::put_finding;
 use arena_rules::OutOfMemory;
-use call_rules::Bytes;
 use line_parts::make_room;
+use short_bytes::Bytes;
 use std::alloc::Global;
 use tree_rules::FindKind;
 

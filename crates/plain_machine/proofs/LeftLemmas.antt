@@ -11,7 +11,7 @@ use Rattle.std.specs.Map.{lookup}
 use Rattle.std.specs.BTreeMap.{is_at, keys, IsOrdered, BTreeMap}
 use Rattle.std.proofs.lemmas.Map.Keys.{IsDistinct-from_sorted}
 use Rattle.std.proofs.lemmas.Map.Entries.{lookup-filter-keys, lookup-filter-values, option_filter}
-use Rattle.call_rules.proofs.MapLemmas.{tree_get}
+use Rattle.name_map.proofs.MapLemmas.{tree_get}
 
 module _ {X : Type 0} where
   -- the names in a tree that pass a test

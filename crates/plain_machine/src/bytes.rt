@@ -3,7 +3,7 @@ ghost use Rattle.std.specs.Prelude.{◌≡◌, ◌+◌, ◌^◌, ◌<◌, ◌++�
 ghost use Rattle.arena_rules.specs.Lists as lists;
 
 use arena_rules::OutOfMemory;
-use call_rules::Bytes;
+use short_bytes::Bytes;
 use std::alloc::Global;
 
 pub(crate) fn filled(alloc: Global, size: u64, fill: u8) -> Result<Bytes, OutOfMemory>

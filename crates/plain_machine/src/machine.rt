@@ -13,7 +13,8 @@ use crate::state::PlainState;
 use crate::unasked::unasked;
 use arena_place::Layout;
 use arena_rules::{OutOfMemory, Place};
-use call_rules::{Bytes, Call, Reply};
+use call_rules::{Call, Reply};
+use short_bytes::Bytes;
 use std::alloc::Global;
 use std::marker::Model;
 

@@ -7,7 +7,7 @@ ghost use Rattle.call_rules.specs.Machine as machine;
 
 use crate::state::PlainState;
 use arena_rules::{OutOfMemory, Place};
-use call_rules::Bytes;
+use short_bytes::Bytes;
 use std::alloc::Global;
 use std::collections::BTreeMap;
 use std::marker::Model;
@@ -39,7 +39,7 @@ impl<V: Drop> Names<V> {
         }
     }
 
-    #[tactic(auto, using(call_rules::proofs::MapLemmas::tree_get))]
+    #[tactic(auto, using(name_map::proofs::MapLemmas::tree_get))]
     pub(crate) fn get(&self, name: u32) -> Option<&V>
         ensures { option_copied result ≡ map.get self.now name }
     {
@@ -53,7 +53,7 @@ impl<V: Drop> Names<V> {
     }
 
     /// Sets the value of a name. Where memory runs out, the map is unchanged.
-    #[tactic(auto, using(call_rules::proofs::MapLemmas::tree_insert))]
+    #[tactic(auto, using(name_map::proofs::MapLemmas::tree_insert))]
     pub(crate) fn insert(&mut self, name: u32, value: V) -> Result<(), OutOfMemory>
         ensures ok { OnOk result (self.new ≡ map.insert self.old name value) }
         ensures err { OnErr result (self.new ≡ self.old) }
@@ -62,7 +62,7 @@ impl<V: Drop> Names<V> {
         Ok(())
     }
 
-    #[tactic(auto, using(call_rules::proofs::MapLemmas::tree_remove))]
+    #[tactic(auto, using(name_map::proofs::MapLemmas::tree_remove))]
     pub(crate) fn remove(&mut self, name: u32)
         ensures { self.new ≡ map.remove self.old name }
     {

@@ -4,7 +4,7 @@ use Rattle.std.specs.FinMap as map
 use Rattle.std.specs.FinMap.{get-entries}
 use Rattle.std.specs.BTreeMap as tree
 use Rattle.std.specs.BTreeMap.{BTreeMap}
-use Rattle.call_rules.proofs.MapLemmas.{tree_get as finite_get, tree_remove}
+use Rattle.name_map.proofs.MapLemmas.{tree_get as finite_get, tree_remove}
 use Rattle.script_rules.specs.Objects.{get, unbind}
 use Rattle.script_rules.proofs.TableLemmas.{entries_of, map_unbind}
 

@@ -45,7 +45,7 @@ impl<V: Drop> Names<V> {
     }
 
     /// Returns how many names hold a value.
-    #[tactic(auto, using(call_rules::proofs::MapLemmas::tree_entries))]
+    #[tactic(auto, using(name_map::proofs::MapLemmas::tree_entries))]
     pub(crate) fn len(&self) -> usize
         ensures { result ≡ length self.now }
     {

@@ -6,7 +6,7 @@ ghost use Rattle.script_rules.specs.Objects.{IsObject, copy_cost};
 use crate::copies::copied;
 use crate::names::Names;
 use arena_rules::OutOfMemory;
-use call_rules::Bytes;
+use short_bytes::Bytes;
 use std::alloc::Global;
 use std::marker::Model;
 

@@ -5,7 +5,7 @@ ghost use Rattle.script_rules.specs.Objects.{has};
 
 use crate::names::Names;
 use arena_rules::OutOfMemory;
-use call_rules::Bytes;
+use short_bytes::Bytes;
 use std::alloc::Global;
 
 // Whether a byte isn't zero.

@@ -12,8 +12,8 @@ use crate::effect::{PlainEffect, content, gives};
 use crate::machine::PlainScripts;
 use crate::object::Kind;
 use arena_rules::OutOfMemory;
-use call_rules::Bytes;
 use script_rules::{Command, ScriptReply};
+use short_bytes::Bytes;
 use std::alloc::Global;
 
 /// The most bytes of a text.

@@ -13,8 +13,8 @@ use crate::names::Names;
 use crate::object::{Kind, PlainObject, words_for};
 use crate::printed::printed;
 use arena_rules::OutOfMemory;
-use call_rules::Bytes;
 use script_rules::{Command, Numbers, ScriptReply};
+use short_bytes::Bytes;
 use std::alloc::Global;
 
 // The numbers of a list.

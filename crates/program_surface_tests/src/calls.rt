@@ -2,7 +2,9 @@
 use arena_calls::{
     Failed, Input, MemoryInput, MemoryOutput, Output, Status, StdInput, StdOutput, arena_calls,
 };
-use arena_chunks::{Arena, Block, Bytes, Call, ChunkSource, Ran, Reply, Stopped, run_calls};
+use arena_chunks::{Arena, Block, ChunkSource};
+use arena_runs::{Call, Ran, Reply, Stopped, run_calls};
+use short_bytes::Bytes;
 use std::alloc::Global;
 
 fn all_calls(name: u32, size: u64, align: u64, fill: u8, at: u64, bytes: Bytes) -> [Call; 11] {

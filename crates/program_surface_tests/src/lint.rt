@@ -1,12 +1,13 @@
 // Public items of the linter.
 use crate::kinds::is_error;
-use arena_chunks::{Allocator, Bytes, ChunkSource};
+use arena_chunks::{Allocator, ChunkSource};
 use arena_lint::{
     FileReport, FindKind, Finding, Findings, LintErr, Linted, Linting, lint_all, lint_one,
     lint_text, lint_two,
 };
 use arena_pool::{AllocatorPool, ChunkMaker, PoolName};
 use script_workers::{Gate, Starved};
+use short_bytes::Bytes;
 use std::alloc::Global;
 use std::sync::Wait;
 use std::thread::Threads;

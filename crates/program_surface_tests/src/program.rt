@@ -1,12 +1,13 @@
 // The program's functions.
 use arena_calls::{Budgeted, Input, Output, Status, program_chunks};
-use arena_chunks::{Arena, Bytes, ChunkSource};
+use arena_chunks::{Arena, ChunkSource};
 use arena_pool::ChunkMaker;
 use arena_program::{BudgetedMaker, arena_main, parse_on_workers, program_maker, run_program};
 use arena_script::Job;
 use script_lines::LinesErr;
 use script_rules::Script;
 use script_workers::{Gate, Starved};
+use short_bytes::Bytes;
 use std::alloc::Global;
 use std::env::Args;
 use std::io;

@@ -1,7 +1,8 @@
 // Public items of scripts, with their commands and replies, and of the engine.
-use arena_chunks::{Allocator, Bytes, ChunkSource, OutOfMemory};
+use arena_chunks::{Allocator, ChunkSource, OutOfMemory};
 use arena_script::{Engine, Job, run_script};
 use script_rules::{Command, Ended, Numbers, Outcome, Replies, Script, ScriptReply};
+use short_bytes::Bytes;
 use std::alloc::Global;
 
 fn makes(name: u32, capacity: u32, value: u64) -> [Command; 5] {

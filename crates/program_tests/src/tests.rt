@@ -10,7 +10,7 @@ use arena_chunks::{Arena, ChunkSource, MemoryChunks};
 use arena_pool::{ChunkMaker, MemoryMaker};
 use arena_program::arena_main;
 use arena_script::{Engine, Job};
-use call_rules::Bytes;
+use short_bytes::Bytes;
 use std::alloc::{Alloc, Global};
 use std::process::Abort;
 use std::sync::Wait;

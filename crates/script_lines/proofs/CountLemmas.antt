@@ -4,7 +4,7 @@ use Rattle.std.specs.Prelude.{◌==◌, Ok}
 use Rattle.std.specs.List.{flat_map}
 use Rattle.std.proofs.lemmas.List.Splits.{length-slice_split}
 use Rattle.std.proofs.lemmas.List.Sums.{count_by-le-length}
-use Rattle.call_rules.specs.Grammar.{lines_of}
+use Rattle.line_parts.specs.Numbers.{lines_of}
 use Rattle.script_rules.specs.Grammar.{command_line, script_lines, is_some_line, ScriptsOf}
 use Rattle.script_rules.specs.declared.commands.Command.{Command}
 use Rattle.script_rules.proofs.EntryLemmas.{length_filter}

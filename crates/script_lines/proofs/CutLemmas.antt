@@ -12,7 +12,7 @@ use Rattle.memchr.specs.Find.{OccursAt, FindsNeedle, is_byte, places}
 use Rattle.memchr.proofs.lemmas.CallerLemmas.{length-places}
 use Rattle.memchr.proofs.lemmas.MatchLemmas.{OccursAt-split}
 use Rattle.arena_rules.proofs.ListLemmas.{all_append}
-use Rattle.call_rules.specs.Grammar.{lines_of}
+use Rattle.line_parts.specs.Numbers.{lines_of}
 use Rattle.line_parts.specs.Lines.{IsCause}
 use Rattle.line_parts.specs.declared.lines.LinesErr.{LinesErr}
 use Rattle.script_rules.specs.Grammar.{script_lines, is_some_line, AreScripts, IsRefused, IsFirstRefused, ScriptsOf}

@@ -5,7 +5,7 @@ use Rattle.std.specs.List.{flat_map}
 use Rattle.std.proofs.lemmas.List.{append-nil, map-append, length-map, length-take-le}
 use Rattle.std.proofs.lemmas.Grind.{flat_map-append}
 use Rattle.std.proofs.lemmas.List.Folds.{flat_map-map}
-use Rattle.call_rules.specs.Grammar.{number, fields, with_feed}
+use Rattle.line_parts.specs.Numbers.{number, fields, with_feed}
 use Rattle.line_parts.proofs.RoomLemmas.{take_next}
 use Rattle.script_rules.specs.Outcomes.{Told, ended_line, outcome_lines, lines_from}
 use Rattle.script_lines.specs.Room.{fed_reply, outcome_text}

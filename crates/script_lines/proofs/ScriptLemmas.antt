@@ -7,7 +7,7 @@ use Rattle.std.proofs.lemmas.List.{append-nil, map_push}
 use Rattle.std.proofs.lemmas.List.Concat.{flat_map-append}
 use Rattle.std.proofs.lemmas.List.Elements.{filter-append}
 use Rattle.arena_rules.proofs.ListLemmas.{all_append, all_parts}
-use Rattle.call_rules.specs.Grammar.{lines_of, number, hex}
+use Rattle.line_parts.specs.Numbers.{lines_of, number, hex}
 use Rattle.line_parts.specs.Reads.{ReadsFront}
 use Rattle.line_parts.specs.Lines.{is_line_end, lines_behind, TakesLine, RefusesLine}
 use Rattle.line_parts.proofs.LineLemmas.{has_feed, plain, plain_number, plain_hex, ended, first_line, no_line}

@@ -1,6 +1,6 @@
 // Cuts a text before a line `script`, and joins what is read of both parts.
 ghost use Rattle.std.specs.Prelude.{◌≡◌, ◌+◌, ◌≤◌, IfOk, IfErr, Ok, Err, length, take, drop};
-ghost use Rattle.call_rules.specs.Grammar.{lines_of};
+ghost use Rattle.line_parts.specs.Numbers.{lines_of};
 ghost use Rattle.memchr.specs.Find.{FindsNeedle};
 ghost use Rattle.line_parts.specs.Lines.{IsCause};
 ghost use Rattle.script_rules.specs.Grammar.{ScriptsOf};

@@ -9,7 +9,7 @@ use Rattle.std.proofs.lemmas.Option.{slice_get_within}
 use Rattle.arena_rules.specs.Bits.{Set, words_for}
 use Rattle.arena_rules.proofs.ListLemmas.{all_append}
 use Rattle.arena_rules.specs.PrintedBits.{digits, lower, printed}
-use Rattle.call_rules.specs.Grammar.{IsByte}
+use Rattle.line_parts.specs.Numbers.{IsByte}
 use Rattle.script_rules.specs.Objects.{Entries, get, Bits, bits_end, has, Object, AList, AText, ASet, AMap, AValue, copy_cost, need_of, most_items, most_bytes, IsObject}
 use Rattle.script_rules.specs.Effects.{Effect, Tells, Gives, LetsGo, held, free, a_list, a_text, a_set, a_map, a_value, unless, joins, at_index, binds, shown, length_reply, number_or_nothing, not_ascii, effect}
 use Rattle.script_rules.specs.Machine.{is_refusal}

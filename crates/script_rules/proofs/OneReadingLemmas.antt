@@ -4,7 +4,7 @@ use Rattle.std.proofs.Common.{arith, ◌≡◌, ◌≢◌, ℕ, ◌⊎◌, inl, 
 use Rattle.std.specs.Prelude.{Result}
 use Rattle.std.specs.List.{AllByRecursion, filter, flat_map}
 use Rattle.std.proofs.lemmas.List.Elements.{filter-append}
-use Rattle.call_rules.specs.Grammar.{lines_of}
+use Rattle.line_parts.specs.Numbers.{lines_of}
 use Rattle.script_rules.specs.Grammar.{Fits, script_lines, is_some_line, AreScripts, IsRefused, IsFirstRefused, ScriptsOf}
 use Rattle.script_rules.specs.declared.commands.Command.{Command}
 use Rattle.script_rules.proofs.ReadingLemmas.{Line, Begins, Does, line_text, IsGood, texts, read_lines, read_lines_back, begun, script_texts, good_lines, Gathered, gather, gather_back}

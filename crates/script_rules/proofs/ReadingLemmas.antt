@@ -1,8 +1,8 @@
 -- Lines of scripts, read back.
 use Rattle.std.proofs.Common.{◌≡◌, ℕ, List, [], ◌∷◌, ◌++◌, length, map, drop, get_or, refl, sym, ap, ◌∙◌, append_assoc, append-nil, codes}
 use Rattle.std.specs.List.{AllByRecursion, flat_map}
-use Rattle.call_rules.specs.Grammar.{number, fields, hex}
-use Rattle.call_rules.proofs.LineLemmas.{read_by, read_fields, read_fields_back, read_hex, read_hex_back}
+use Rattle.line_parts.specs.Numbers.{number, fields, hex}
+use Rattle.line_parts.proofs.FieldLemmas.{read_by, read_fields, read_fields_back, read_hex, read_hex_back}
 use Rattle.script_rules.specs.Grammar.{Part, Bits, Hex, word, part_text, written, command_line, Fits, script_lines}
 use Rattle.script_rules.specs.declared.commands.Command.{Command}
 use Rattle.script_rules.specs.declared.commands.Command.TheVariants.{MakeList, MakeText, MakeBits, MakeMap, MakeValue, Push, Insert, Pop, Remove, At, Put, Truncate, Byte, Front, Append, SetBit, UnsetBit, HasBit, Union, Ones, Bind, Find, Unbind, Load, Store, Len, Show, CopyTo, DropName}

@@ -1,6 +1,6 @@
 -- Examples of scripts, computed: their replies, needs and costs, and the lines of their outcomes.
 use Rattle.std.proofs.Common.{◌≡◌, ℕ, ◌++◌, arith, Ok, refl, false, List, [], ◌∷◌, codes}
-use Rattle.call_rules.specs.Grammar.{number, digits}
+use Rattle.line_parts.specs.Numbers.{number, digits}
 use Rattle.arena_rules.specs.Bits.{members}
 use Rattle.arena_rules.specs.PrintedBits as bits
 use Rattle.script_rules.specs.Objects.{need}

@@ -2,8 +2,8 @@
 use Rattle.std.proofs.Common.{◌≡◌, ◌≢◌, ℕ, ◌+◌, ◌^◌, List, [], ◌∷◌, ◌++◌, length, map, inl, inr, refl, sym, ap, ◌∙◌, subst, codes, Ok, Err}
 use Rattle.std.specs.Prelude.{Result, ◌⊎◌}
 use Rattle.std.specs.List.{AllByRecursion, filter, flat_map}
-use Rattle.call_rules.specs.Grammar.{lines_of}
-use Rattle.call_rules.proofs.DecisionLemmas.{Decided, both, below, are_bytes, same}
+use Rattle.line_parts.specs.Numbers.{lines_of}
+use Rattle.line_parts.proofs.DecisionLemmas.{Decided, both, below, are_bytes, same}
 use Rattle.script_rules.specs.Grammar.{Part, Bits, Hex, IsPart, written, command_line, Fits, is_some_line, script_lines, IsRefused, ScriptsOf}
 use Rattle.script_rules.specs.declared.commands.Command.{Command}
 use Rattle.script_rules.proofs.ReadingLemmas.{Line, Begins, Does, line_text, IsGood, read_line, read_line_back}

@@ -6,7 +6,7 @@ use Rattle.std.specs.FinMap as map
 use Rattle.std.specs.FinMap.{FinMap, get-entries, get-remove, entries-insert, len-empty, len-entries}
 use Rattle.std.specs.BTreeMap as tree
 use Rattle.std.specs.BTreeMap.{BTreeMap}
-use Rattle.call_rules.proofs.MapLemmas.{tree_insert}
+use Rattle.name_map.proofs.MapLemmas.{tree_insert}
 use Rattle.script_rules.specs.Objects.{Entries, bind, unbind}
 use Rattle.script_rules.proofs.EntryLemmas.{of_T, rising_unbind}
 use Rattle.script_rules.proofs.LookupLemmas.{get_unbind, same_by_get}

@@ -5,9 +5,9 @@ use Rattle.std.specs.Prelude.{◌==◌, if◌then◌else◌}
 use Rattle.std.specs.List.{AllByRecursion, flat_map}
 use Rattle.std.proofs.lemmas.List.{map-append}
 use Rattle.arena_rules.proofs.ListLemmas.{all_append}
-use Rattle.call_rules.specs.Grammar.{number, fields, with_feed}
-use Rattle.call_rules.proofs.NumberLemmas.{read_front, read_number, Stops}
-use Rattle.call_rules.proofs.LineLemmas.{read_by, read_field, read_field_back, read_hex, read_hex_back}
+use Rattle.line_parts.specs.Numbers.{number, fields, with_feed}
+use Rattle.line_parts.proofs.NumberLemmas.{read_front, read_number, Stops}
+use Rattle.line_parts.proofs.FieldLemmas.{read_by, read_field, read_field_back, read_hex, read_hex_back}
 use Rattle.script_rules.specs.Outcomes.{fields_or_dash, text_or_dash, reply_line, ended_line, Told, told, lines_from, text_of_outcomes, IsPrintedByte, HasBytes, HaveBytes}
 use Rattle.script_rules.specs.declared.outcome.Outcome.{Outcome}
 use Rattle.script_rules.specs.declared.commands.Ended.{Ended}

@@ -1,7 +1,7 @@
 -- The lines of the outcomes of scripts.
 use Rattle.std.specs.Prelude.{◌≢◌, ℕ, ◌+◌, true, false, List, [], ◌∷◌, ◌++◌, map, codes}
 use Rattle.std.specs.List.{flat_map, AllByRecursion}
-use Rattle.call_rules.specs.Grammar.{fields, hex, IsByte, with_feed}
+use Rattle.line_parts.specs.Numbers.{fields, hex, IsByte, with_feed}
 use Rattle.script_rules.specs.declared.commands.Ended.{Ended}
 use Rattle.script_rules.specs.declared.commands.Ended.TheVariants as ended
 use Rattle.script_rules.specs.declared.commands.ScriptReply.{ScriptReply}

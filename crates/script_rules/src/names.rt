@@ -3,7 +3,7 @@ ghost use Rattle.std.specs.Prelude.{◌≡◌, ◌^◌, ◌<◌, [], OnOk, OnErr
 ghost use Rattle.script_rules.specs.Objects.{get, bind, unbind};
 
 use arena_rules::OutOfMemory;
-use call_rules::Names as Table;
+use name_map::Names as Table;
 use std::alloc::Global;
 use std::marker::Model;
 

@@ -1,8 +1,9 @@
 // Public items of bit sets.
 use crate::kinds::{is_copy, is_walk};
 use arena_bits::{BitSet, Ones};
-use arena_chunks::{Allocator, Bytes, ChunkSource, OutOfMemory};
+use arena_chunks::{Allocator, ChunkSource, OutOfMemory};
 use arena_items::Grown;
+use short_bytes::Bytes;
 use std::alloc::Global;
 
 fn changed<C: ChunkSource>(set: &mut BitSet, a: &mut Allocator<C>) {

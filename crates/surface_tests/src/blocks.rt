@@ -2,8 +2,9 @@
 use crate::kinds::{is_copy, is_error, is_plain, is_shown};
 use arena_chunks::bumpalo_alloc::{CannotReallocInPlace, Excess};
 use arena_chunks::{
-    ArenaErr, Block, Bytes, ChunkSource, MemoryChunks, OutOfMemory, RawErr, RefusingChunks, Str,
+    ArenaErr, Block, ChunkSource, MemoryChunks, OutOfMemory, RawErr, RefusingChunks, Str,
 };
+use short_bytes::Bytes;
 use std::alloc::Global;
 
 // A source that implements only the required method.

@@ -1,10 +1,11 @@
 // Public items of trees.
-use arena_chunks::{Allocator, Block, Bytes, ChunkSource, OutOfMemory, Str};
+use arena_chunks::{Allocator, Block, ChunkSource, OutOfMemory, Str};
 use arena_clone::{Dummy, ReplaceWith};
 use arena_items::Item;
 use arena_tree::Kind::{self, Let, Name, Neg, Num, Prod, Show, Sum};
 use arena_tree::{Node, Tree, TreeErr};
 use arena_vec::Vec;
+use short_bytes::Bytes;
 use std::alloc::Global;
 
 fn node(kind: Kind, number: u64, text: Str, kids: Block, len: u32, cap: u32) -> Node {

@@ -1,6 +1,6 @@
 -- Examples, computed: refusals, texts, folding and findings.
 use Rattle.std.proofs.Common.{◌≡◌, ◌++◌, refl, Some, None, [], ◌∷◌, codes, replicate}
-use Rattle.call_rules.specs.Grammar.{number, digits}
+use Rattle.line_parts.specs.Numbers.{number, digits}
 use Rattle.tree_rules.specs.Tokens.{LetKey, Word, Number, Star, Other, Equals, Semicolon, tokens, tokens_from, front, without_places}
 use Rattle.tree_rules.specs.Trees.{Expr, Num, Name, Neg, Sum, Prod, NoExprs, And, Let, Block, Stmts, NoStmts, Then, text, folded_stmts, folds_of_stmts}
 use Rattle.tree_rules.specs.Reading.{refusal_of, refusal_from}

@@ -2,8 +2,8 @@
 use Rattle.std.proofs.Common.{◌≡◌, ℕ, zero, suc, ◌+◌, ◌-◌, ◌*◌, ◌%◌, ◌<◌, ◌==◌, Bool, true, false, List, [], ◌∷◌, ◌++◌, length, get_or, length-append, refl, ap, ◌∙◌, arith, codes}
 use Rattle.std.specs.List.{list_all, AllByRecursion}
 use Rattle.std.proofs.lemmas.Bool.Decides.{nat_tests}
-use Rattle.call_rules.specs.Grammar.{number}
-use Rattle.call_rules.proofs.NumberLemmas.{number_by_steps}
+use Rattle.line_parts.specs.Numbers.{number}
+use Rattle.line_parts.proofs.NumberLemmas.{number_by_steps}
 use Rattle.tree_rules.specs.Tokens.{Token, Word, Number, Other, is_space, is_digit, is_name_start, is_name_byte, run, value, has_needless_zero, Front, look_up, word_front, number_front, sign_front, front, tokens_from, without_places}
 use Rattle.tree_rules.specs.Trees.{IsName}
 use Rattle.std.proofs.lemmas.Bool.{and_parts, or_left, cond-true, cond-false, cond_both}

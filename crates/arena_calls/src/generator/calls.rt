@@ -3,7 +3,8 @@ ghost use Rattle.std.specs.Prelude.{◌≡◌};
 ghost use Rattle.call_rules.specs.declared.calls.Call.{Call};
 ghost use Rattle.call_rules.specs.Generator.{next_seed, drawn, size_in, align_in, fill_in, call_at, seed_behind};
 
-use call_rules::{Bytes, Call};
+use call_rules::Call;
+use short_bytes::Bytes;
 use std::alloc::Global;
 
 // One call in this many frees all blocks: the last one.

@@ -3,7 +3,7 @@ ghost use Rattle.std.specs.Prelude.{◌≡◌, ℕ, ◌⊎◌, List, Option, IfO
 ghost use Rattle.call_rules.specs.Generator.{gen_calls};
 ghost use Rattle.call_rules.specs.declared.calls.Reply.{Reply};
 ghost use Rattle.arena_chunks.specs.Source.{view};
-ghost use Rattle.arena_chunks.specs.Runs.{Runs, RunsFirst};
+ghost use Rattle.arena_runs.specs.Runs.{Runs, RunsFirst};
 ghost use Rattle.arena_store.specs.declared.block.Block.{Block};
 ghost use Rattle.arena_calls.specs.Tallies.{IsTally};
 ghost use Rattle.arena_calls.specs.Ends.{outside, GenEnds};
@@ -14,7 +14,8 @@ use super::tally::Tally;
 use crate::printing::print;
 use crate::status::Status;
 use crate::streams::Output;
-use arena_chunks::{Arena, ChunkSource, OutOfMemory, Replies, Run};
+use arena_chunks::{Arena, ChunkSource, OutOfMemory};
+use arena_runs::{Replies, Run};
 use std::alloc::Global;
 use std::mem;
 

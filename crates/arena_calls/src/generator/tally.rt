@@ -1,8 +1,8 @@
 // Counts replies, and keeps none.
 ghost use Rattle.std.specs.Prelude.{◌≡◌, ◌*◌, ◌^◌, ◌≤◌, length, sum};
 
-use arena_chunks::Replies;
 use arena_rules::OutOfMemory;
+use arena_runs::Replies;
 use call_rules::Reply;
 
 // The sum of this many bytes fits in 16 bits, and the compiler adds them all at once.

@@ -1,7 +1,7 @@
 // Tests of the callers of the examples over an arena in memory, and of the bytes that calls take.
 use super::{ample, layout, same};
-use arena_chunks::Bytes;
 use example_blocks::{Buffer, place_two};
+use short_bytes::Bytes;
 use std::test::Fail;
 
 #[test]

@@ -1,7 +1,9 @@
 // Runs of calls with the replies and the requests that were worked out by hand from the rules.
 use super::{must, refusing, same, same_at};
-use arena_chunks::{Arena, Bytes, Call, ChunkSource, OutOfMemory, Ran, Reply, run_calls};
+use arena_chunks::{Arena, ChunkSource, OutOfMemory};
+use arena_runs::{Call, Ran, Reply, run_calls};
 use plain_machine::PlainMachine;
+use short_bytes::Bytes;
 use std::alloc::Global;
 use std::process::Abort;
 

@@ -11,7 +11,7 @@ use super::{Rt, ample};
 use crate::{set_out, set_out_folded};
 use arena_chunks::{Allocator, ChunkSource};
 use arena_tree::{Tree, TreeErr};
-use call_rules::Bytes;
+use short_bytes::Bytes;
 use std::process::Abort;
 
 const SAMPLE: &[u8] = b"let x = 1+2*3 - -y;";

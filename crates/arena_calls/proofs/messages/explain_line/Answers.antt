@@ -1,7 +1,7 @@
 use Rattle.std.proofs.Common.{◌≡◌, sym, ◌∙◌, codes}
 use Rattle.std.proofs.lemmas.Result.{on_ok_weaker, on_err_weaker}
-use Rattle.call_rules.specs.Grammar.{number}
-use Rattle.call_rules.proofs.NumberLemmas.{number-decimal}
+use Rattle.line_parts.specs.Numbers.{number}
+use Rattle.line_parts.proofs.NumberLemmas.{number-decimal}
 use Rattle.arena_calls.proofs.StreamLemmas.{writes_both, part_of_first, part_of_second, on_err}
 use Rattle.arena_calls.proofs.messages.explain_line.Goals as goal
 

@@ -1,8 +1,8 @@
 use Rattle.std.proofs.Common.{◌≡◌, ◌+◌, ◌≤◌, false, List, length, take}
 use Rattle.call_rules.specs.declared.calls.Reply.{Reply}
-use Rattle.arena_chunks.specs.Runs.Replies.{TakesMore}
+use Rattle.arena_runs.specs.Replies.{TakesMore}
 use Rattle.arena_store.specs.Source.{view}
-use Rattle.arena_chunks.specs.Runs.Running.{IsRunning}
+use Rattle.arena_runs.specs.Running.{IsRunning}
 use Rattle.arena_oracle.specs.Sources.{source_of}
 use Rattle.arena_oracle.proofs.TurnLemmas.{KeepsFirst}
 use Rattle.arena_oracle.proofs.within.run_calls_within.Given as goal

@@ -2,7 +2,7 @@ use Rattle.std.proofs.Common.{◌≡◌, ◌-◌, ◌^◌, ◌≤◌, false, Lis
 use Rattle.call_rules.specs.Generator.{gen_calls, seed_before}
 use Rattle.call_rules.specs.declared.calls.Reply.{Reply}
 use Rattle.arena_store.specs.Source.{view}
-use Rattle.arena_chunks.specs.Runs.Running.{IsRunning}
+use Rattle.arena_runs.specs.Running.{IsRunning}
 use Rattle.arena_calls.specs.Tallies.{IsTally}
 use Rattle.arena_oracle.specs.Sources.{source_of}
 use Rattle.arena_oracle.proofs.TurnLemmas.{KeepsFirst}

@@ -1,7 +1,7 @@
 use Rattle.std.proofs.lemmas.Bool.Decides.{nat_tests}
 use Rattle.std.proofs.Common.{arith}
 use Rattle.std.proofs.lemmas.Result.{on_ok_weaker}
-use Rattle.call_rules.proofs.NumberLemmas.{number-decimal}
+use Rattle.line_parts.proofs.NumberLemmas.{number-decimal}
 use Rattle.arena_tree.proofs.print.put_number.Goals as goal
 
 pub returns : goal.returns

@@ -1,5 +1,5 @@
 use Rattle.std.proofs.Common.{[], ◌∷◌, ◌++◌, codes}
-use Rattle.call_rules.specs.Grammar.{fields}
+use Rattle.line_parts.specs.Numbers.{fields}
 use Rattle.lint_reports.proofs.ReportLemmas.{only_line}
 use Rattle.lint_reports.proofs.printing.put_lines.Goals as goal
 

@@ -4,7 +4,7 @@ ghost use Rattle.arena_tree.specs.Given.{IsTreeIn};
 use super::super::Rt;
 use arena_chunks::{Allocator, ChunkSource};
 use arena_tree::{Tree, TreeErr};
-use call_rules::Bytes;
+use short_bytes::Bytes;
 use std::marker::Model;
 use std::process::Abort;
 

@@ -1,6 +1,6 @@
 use Rattle.std.proofs.lemmas.Bool.Decides.{nat_tests}
 use Rattle.std.proofs.Common.{arith, append-nil}
-use Rattle.call_rules.proofs.MapLemmas.{tree_entries}
+use Rattle.name_map.proofs.MapLemmas.{tree_entries}
 use Rattle.plain_scripts.proofs.whole.listed.Goals as goal
 
 pub returns : goal.returns

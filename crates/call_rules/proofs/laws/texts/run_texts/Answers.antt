@@ -1,4 +1,4 @@
-use Rattle.call_rules.specs.Grammar.{lines_of}
+use Rattle.line_parts.specs.Numbers.{lines_of}
 use Rattle.call_rules.proofs.ReplyByteLemmas.{lines_fit, replies_bytes}
 use Rattle.call_rules.proofs.TextLemmas.{same_replies}
 use Rattle.call_rules.proofs.laws.texts.run_texts.Goals as goal

@@ -1,5 +1,0 @@
-use Rattle.arena_chunks.proofs.RunLemmas.Running.{running_first}
-use Rattle.arena_chunks.proofs.runs.run.Run.new.Goals as goal
-
-pub returns : goal.returns
-returns g c = λ source. rw (c.in_ok-new.ensures, c.new-2.ensures) (running_first _ c.known.ensures.valid)

@@ -1,7 +1,0 @@
-use Rattle.std.proofs.Common.{[]}
-use Rattle.arena_chunks.proofs.runs.run.run_calls.Goals as goal
-
-pub returns-clause-ok : goal.returns-clause-ok
-returns-clause-ok g c =
-    let ran = c.in_ok-held.ensures.ok in
-    rw (ran.2 [] c.new.ensures.items) ran.1

@@ -1,0 +1,10 @@
+mod Trees
+mod FirstNames
+mod Log
+mod Known
+mod Change
+mod Serving
+mod Resizing
+mod Marking
+mod GoingBack
+mod Running
