@@ -25,15 +25,15 @@ pub use Rattle.arena_chunks.specs.Creating
 pub use Rattle.arena_chunks.specs.Asking as Requests
 pub use Rattle.arena_items.specs.Layout
 pub use Rattle.arena_items.specs.ByteForms
-pub use Rattle.arena_items.specs.LayoutLaws
+pub use Rattle.arena_items.specs.laws.LayoutLaws
 pub use Rattle.arena_items.specs.NumberForms
-pub use Rattle.arena_items.specs.FormLaws
-pub use Rattle.arena_items.specs.NumberLaws
+pub use Rattle.arena_items.specs.laws.FormLaws
+pub use Rattle.arena_items.specs.laws.NumberLaws
 pub use Rattle.arena_items.specs.NonZeroForms
-pub use Rattle.arena_items.specs.NonZeroLaws
-pub use Rattle.arena_items.specs.OptionLaws
-pub use Rattle.arena_items.specs.PairLaws
-pub use Rattle.arena_items.specs.HandleLaws
+pub use Rattle.arena_items.specs.laws.NonZeroLaws
+pub use Rattle.arena_items.specs.laws.OptionLaws
+pub use Rattle.arena_items.specs.laws.PairLaws
+pub use Rattle.arena_items.specs.laws.HandleLaws
 pub use Rattle.arena_items.specs.Values
 pub use Rattle.arena_items.specs.Placing
 pub use Rattle.arena_items.specs.Typed
@@ -41,7 +41,7 @@ pub use Rattle.arena_items.specs.Room
 pub use Rattle.arena_items.specs.Costs
 pub use Rattle.arena_items.specs.Denied
 pub use Rattle.arena_items.specs.Footprint
-pub use Rattle.arena_items.specs.FootprintLaws
+pub use Rattle.arena_items.specs.laws.FootprintLaws
 pub use Rattle.arena_items.specs.FrameLaw
 pub use Rattle.arena_items.specs.Messages as ItemMessages
 pub use Rattle.arena_vec.specs.Growth as VecGrowth
@@ -76,22 +76,22 @@ pub use Rattle.arena_hash.specs.Accounts
 pub use Rattle.arena_hash.specs.Changes as MapChanges
 pub use Rattle.arena_hash.specs.Collecting
 pub use Rattle.arena_hash.specs.Sets as MapSets
-pub use Rattle.arena_hash.specs.AgreeLaws
+pub use Rattle.arena_hash.specs.laws.AgreeLaws
 pub use Rattle.arena_clone.specs.Asks
 pub use Rattle.arena_clone.specs.Copies
 pub use Rattle.arena_clone.specs.FlatLaws
 pub use Rattle.arena_clone.specs.Dummies
 pub use Rattle.arena_clone.specs.AskBytes
 pub use Rattle.arena_clone.specs.Kinds
-pub use Rattle.arena_clone.specs.KindLaws
+pub use Rattle.arena_clone.specs.laws.KindLaws
 pub use Rattle.arena_clone.specs.EitherKind
-pub use Rattle.arena_clone.specs.EitherLaws
+pub use Rattle.arena_clone.specs.laws.EitherLaws
 pub use Rattle.arena_clone.specs.Alike
 pub use Rattle.arena_clone.specs.Origins
 pub use Rattle.arena_clone.specs.Placing as CopyPlacing
 pub use Rattle.arena_clone.specs.MapKind
-pub use Rattle.arena_clone.specs.KeyLaws
-pub use Rattle.arena_clone.specs.MapLaws
+pub use Rattle.arena_clone.specs.laws.KeyLaws
+pub use Rattle.arena_clone.specs.laws.MapLaws
 pub use Rattle.arena_clone.specs.MapCopies
 pub use Rattle.arena_symbols.specs.Interner
 pub use Rattle.arena_symbols.specs.Scoping
@@ -102,8 +102,8 @@ pub use Rattle.arena_symbols.specs.Names as SymbolNames
 pub use Rattle.arena_symbols.specs.Interning
 pub use Rattle.arena_symbols.specs.Tables as SymbolTables
 pub use Rattle.arena_symbols.specs.TableCalls
-pub use Rattle.arena_symbols.specs.NameLaws
-pub use Rattle.arena_symbols.specs.TableLaws
+pub use Rattle.arena_symbols.specs.laws.NameLaws
+pub use Rattle.arena_symbols.specs.laws.TableLaws
 pub use Rattle.arena_symbols.specs.Named
 pub use Rattle.arena_symbols.specs.Calls
 pub use Rattle.arena_symbols.specs.Serving as SymbolServing

@@ -20,7 +20,7 @@ use Rattle.arena_symbols.specs.Interning.{Interns}
 use Rattle.arena_symbols.specs.Names.{IsInternerIn, names_footprint}
 use Rattle.arena_symbols.specs.declared.symbols.Symbols.{Symbols}
 use Rattle.arena_symbols.proofs.Layers.{all_turned}
-use Rattle.arena_ast.specs.AstLaws.{ast_kind}
+use Rattle.arena_ast.specs.laws.AstLaws.{ast_kind}
 use Rattle.arena_ast.specs.Asts.{AreOrdered, AreNodesIn, IsAstIn, ast_blocks}
 use Rattle.arena_ast.specs.Rows.{rows_in, with_name, NameRefused}
 use Rattle.arena_ast.specs.declared.ast.Ast.{Ast}

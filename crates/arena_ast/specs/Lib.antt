@@ -1,5 +1,5 @@
 pub use Rattle.arena_items.specs.Beside
 pub mod Rows
 pub mod Asts
-pub mod AstLaws
 pub mod Forms
+pub mod laws

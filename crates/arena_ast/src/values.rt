@@ -1,5 +1,5 @@
 // What the handle of a tree means: one `frame_law` for all of it.
-ghost use Rattle.arena_ast.specs.AstLaws.{ast_readable, ast_same_footprint, ast_same, ast_held_again};
+ghost use Rattle.arena_ast.specs.laws.AstLaws.{ast_readable, ast_same_footprint, ast_same, ast_held_again};
 ghost use Rattle.arena_ast.specs.Asts.{IsAstIn, ast_blocks};
 ghost use Rattle.arena_ast.specs.Rows.{Rows, rows_in};
 

@@ -2,7 +2,7 @@
 ghost use Rattle.std.specs.Prelude.{[], ◌∷◌, refl};
 ghost use Rattle.std.proofs.Common.{ap};
 ghost use Rattle.std.specs.Int.{from_le_bytes, w64};
-ghost use Rattle.arena_items.specs.FootprintLaws.{held_readable, held_again};
+ghost use Rattle.arena_items.specs.laws.FootprintLaws.{held_readable, held_again};
 ghost use Rattle.arena_items.specs.Values.{elements};
 ghost use Rattle.arena_bits.specs.Bits.{Set, bits_of};
 ghost use Rattle.arena_bits.specs.Sets.{IsSetIn, set_of};

@@ -6,7 +6,7 @@ use Rattle.arena_chunks.specs.Source.{View}
 use Rattle.arena_items.specs.declared.room.AllocError.{AllocError}
 use Rattle.arena_clone.specs.Asks.{Ask}
 use Rattle.arena_clone.specs.Kinds.{Kind, both_of}
-use Rattle.arena_clone.specs.KindLaws.{IsLawful}
+use Rattle.arena_clone.specs.laws.KindLaws.{IsLawful}
 use Rattle.arena_clone.specs.Copies.{MakesNew}
 use Rattle.arena_exchange.proofs.Layers.{made_stays, made_readable, apart_of_none, places_then}
 

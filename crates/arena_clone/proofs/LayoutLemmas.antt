@@ -8,7 +8,7 @@ use Rattle.arena_store.specs.declared.block.Block.{Block}
 pub use Rattle.arena_chunks.proofs.Layers.{readable_size}
 use Rattle.arena_items.specs.Layout.{IsAlign}
 use Rattle.arena_items.specs.Layout.IsAlign.{one, two, four, eight, sixteen}
-use Rattle.arena_items.specs.LayoutLaws.{IsAlign-bounds}
+use Rattle.arena_items.specs.laws.LayoutLaws.{IsAlign-bounds}
 
 power : (align : ℕ) → IsAlign align → is_power align ≡ true
 unfolding is_power_among

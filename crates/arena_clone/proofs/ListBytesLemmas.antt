@@ -8,7 +8,7 @@ use Rattle.arena_chunks.specs.Source.{View}
 use Rattle.arena_store.specs.declared.block.Block.{Block}
 use Rattle.arena_items.specs.Layout.{IsAlign}
 use Rattle.arena_items.specs.Layout.IsAlign.{one}
-use Rattle.arena_items.specs.LayoutLaws.{IsAlign-bounds}
+use Rattle.arena_items.specs.laws.LayoutLaws.{IsAlign-bounds}
 use Rattle.arena_items.specs.declared.room.Growth.{Growth}
 use Rattle.arena_items.specs.declared.room.Growth.TheVariants.{Stays, GrowsTo, Overflows}
 use Rattle.arena_items.specs.declared.room.AllocError.{AllocError}

@@ -13,7 +13,7 @@ use Rattle.arena_items.specs.Values.{bytes_of, elements}
 use Rattle.arena_items.specs.declared.item.Item.{Ghosts}
 use Rattle.arena_items.specs.declared.room.AllocError.{AllocError}
 use Rattle.arena_clone.specs.Kinds.{Kind, row_of}
-use Rattle.arena_clone.specs.KindLaws.{IsLawful, all_each}
+use Rattle.arena_clone.specs.laws.KindLaws.{IsLawful, all_each}
 use Rattle.arena_clone.specs.Copies.{Copies}
 use Rattle.arena_clone.specs.Origins.{IsOrigin, AreBeside}
 use Rattle.arena_clone.specs.Rows.{CopiesRow}

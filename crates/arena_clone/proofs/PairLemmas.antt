@@ -4,7 +4,7 @@ use Rattle.arena_chunks.specs.Memory.{Memory}
 use Rattle.arena_chunks.specs.Source.{View}
 use Rattle.arena_items.specs.declared.room.AllocError.{AllocError}
 use Rattle.arena_clone.specs.Kinds.{Kind}
-use Rattle.arena_clone.specs.KindLaws.{IsLawful}
+use Rattle.arena_clone.specs.laws.KindLaws.{IsLawful}
 use Rattle.arena_clone.specs.MapKind.{pair_of}
 use Rattle.arena_clone.specs.Copies.{Copies}
 use Rattle.arena_exchange.specs.declared.ids.CloneInSemanticIds.{CloneInSemanticIds}

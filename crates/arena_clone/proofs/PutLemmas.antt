@@ -15,7 +15,7 @@ use Rattle.arena_items.specs.Footprint.{Agree}
 use Rattle.arena_items.specs.declared.room.AllocError.{AllocError}
 use Rattle.arena_items.proofs.Layers.{stays_readable, stays_agree}
 use Rattle.arena_hash.specs.Accounts.{spare_of}
-use Rattle.arena_hash.specs.AgreeLaws.{meaning-agree, held-agree}
+use Rattle.arena_hash.specs.laws.AgreeLaws.{meaning-agree, held-agree}
 use Rattle.arena_hash.specs.Changes.{Puts, is_value}
 use Rattle.arena_hash.specs.Contents.{content_in, Kind as MapTypes}
 use Rattle.arena_hash.specs.Finite.{Finite, AreOnce, first_of, with_pair, has}
@@ -25,9 +25,9 @@ use Rattle.arena_hash.specs.Slots.{items}
 use Rattle.arena_items.specs.declared.room.Growth.TheVariants.{Stays}
 use Rattle.arena_hash.specs.declared.map.HashMap.{HashMap}
 use Rattle.arena_clone.specs.Kinds.{Kind, row_of}
-use Rattle.arena_clone.specs.KindLaws.{IsLawful, row_lawful, agree_each}
+use Rattle.arena_clone.specs.laws.KindLaws.{IsLawful, row_lawful, agree_each}
 use Rattle.arena_clone.specs.MapKind.{KeepsContent, pair_of}
-use Rattle.arena_clone.specs.MapLaws.{at_block, pair_lawful, text_agree, text_readable}
+use Rattle.arena_clone.specs.laws.MapLaws.{at_block, pair_lawful, text_agree, text_readable}
 use Rattle.arena_clone.specs.MapCopies.{HoldsCopies, PutsCopies}
 use Rattle.arena_clone.specs.Copies.{Copies}
 use Rattle.arena_clone.specs.Rows.{CopiesRow}

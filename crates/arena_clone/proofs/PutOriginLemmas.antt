@@ -12,9 +12,9 @@ use Rattle.arena_hash.specs.Slots.{items}
 use Rattle.arena_hash.specs.Tables.{slots_in, slots_of, IsTableHandle}
 use Rattle.arena_hash.specs.declared.map.HashMap.{HashMap}
 use Rattle.arena_clone.specs.Kinds.{Kind, row_of}
-use Rattle.arena_clone.specs.KindLaws.{IsLawful}
+use Rattle.arena_clone.specs.laws.KindLaws.{IsLawful}
 use Rattle.arena_clone.specs.MapKind.{pair_of}
-use Rattle.arena_clone.specs.MapLaws.{pair_lawful}
+use Rattle.arena_clone.specs.laws.MapLaws.{pair_lawful}
 use Rattle.arena_clone.specs.Copies.{Copies}
 use Rattle.arena_clone.specs.Origins.{IsKept, IsOrigin, AreBeside}
 use Rattle.arena_exchange.specs.declared.ids.CloneInSemanticIds.{CloneInSemanticIds}

@@ -18,7 +18,7 @@ use Rattle.arena_items.specs.declared.room.AllocError.{AllocError}
 use Rattle.arena_items.specs.Room.{SamePlaces}
 use Rattle.arena_items.proofs.Layers.{stays_apart, elements-empty, wrote_same}
 use Rattle.arena_clone.specs.Kinds.{Kind, row_of}
-use Rattle.arena_clone.specs.KindLaws.{IsLawful, row_lawful}
+use Rattle.arena_clone.specs.laws.KindLaws.{IsLawful, row_lawful}
 use Rattle.arena_clone.specs.Copies.{IsMade, Copies}
 use Rattle.arena_clone.specs.Rows.{CopiesRow}
 use Rattle.arena_exchange.specs.declared.ids.CloneInSemanticIds.{CloneInSemanticIds}

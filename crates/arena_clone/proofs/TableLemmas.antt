@@ -13,7 +13,7 @@ use Rattle.arena_chunks.specs.BlockCalls.{PlacesBlock}
 use Rattle.arena_store.specs.declared.block.Block.{Block}
 use Rattle.arena_items.specs.Footprint.{AreReadable}
 use Rattle.arena_items.specs.Layout.{IsAlign, IsItemLayout}
-use Rattle.arena_items.specs.LayoutLaws.{plain_8, pair_layout}
+use Rattle.arena_items.specs.laws.LayoutLaws.{plain_8, pair_layout}
 use Rattle.arena_items.specs.Room.{RoomAnswer}
 use Rattle.arena_items.specs.Values.{bytes_of, IsHeld}
 use Rattle.arena_items.specs.declared.room.AllocError.{AllocError}

@@ -13,7 +13,7 @@ use Rattle.arena_items.specs.declared.item.Item.{Ghosts}
 use Rattle.arena_items.specs.declared.room.AllocError.{AllocError}
 use Rattle.arena_clone.specs.Asks.{Ask, PlacesAll, refusal}
 use Rattle.arena_clone.specs.Kinds.{Kind, row_of, row_in}
-use Rattle.arena_clone.specs.KindLaws.{IsLawful, row_lawful}
+use Rattle.arena_clone.specs.laws.KindLaws.{IsLawful, row_lawful}
 use Rattle.arena_clone.specs.Copies.{Copies}
 use Rattle.arena_clone.specs.Origins.{IsKept, IsOrigin, AreBeside}
 use Rattle.arena_clone.specs.Rows.{CopiesRow}

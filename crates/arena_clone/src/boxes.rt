@@ -1,6 +1,6 @@
 // Copies of boxes.
 ghost use Rattle.arena_clone.specs.Kinds.{box_of};
-ghost use Rattle.arena_clone.specs.KindLaws.{box_lawful};
+ghost use Rattle.arena_clone.specs.laws.KindLaws.{box_lawful};
 
 use crate::clone_in::CloneIn;
 use crate::origin::Origin;

@@ -1,6 +1,6 @@
 // Copies of text builders.
 ghost use Rattle.arena_clone.specs.Kinds.{builder};
-ghost use Rattle.arena_clone.specs.KindLaws.{builder_lawful};
+ghost use Rattle.arena_clone.specs.laws.KindLaws.{builder_lawful};
 
 use crate::clone_in::CloneIn;
 use crate::origin::Origin;

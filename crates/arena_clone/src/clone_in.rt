@@ -1,7 +1,7 @@
 // Values that can be copied at every depth.
 ghost use Rattle.std.specs.Prelude.{◌≡◌};
 ghost use Rattle.arena_clone.specs.Kinds.{Kind};
-ghost use Rattle.arena_clone.specs.KindLaws.{IsLawful};
+ghost use Rattle.arena_clone.specs.laws.KindLaws.{IsLawful};
 ghost use Rattle.arena_clone.specs.Copies.{Copies};
 
 use crate::origin::{Here, Origin};

@@ -1,5 +1,5 @@
 // Keys of maps that can be copied.
-ghost use Rattle.arena_clone.specs.KeyLaws.{text_keeps, whole_keeps};
+ghost use Rattle.arena_clone.specs.laws.KeyLaws.{text_keeps, whole_keeps};
 ghost use Rattle.arena_clone.specs.MapKind.{KeepsContent};
 
 use crate::clone_in::CloneIn;

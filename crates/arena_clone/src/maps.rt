@@ -6,7 +6,7 @@ ghost use Rattle.arena_hash.specs.Maps.{pairs_in};
 ghost use Rattle.arena_clone.specs.Copies.{Copies};
 ghost use Rattle.arena_clone.specs.MapCopies.{HoldsCopies, PutsCopies};
 ghost use Rattle.arena_clone.specs.MapKind.{map_of, pair_of};
-ghost use Rattle.arena_clone.specs.MapLaws.{map_lawful};
+ghost use Rattle.arena_clone.specs.laws.MapLaws.{map_lawful};
 ghost use Rattle.arena_clone.specs.Origins.{AreBeside};
 
 use crate::clone_in::CloneIn;

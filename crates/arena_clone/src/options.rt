@@ -1,6 +1,6 @@
 // Copies of options.
 ghost use Rattle.arena_clone.specs.Kinds.{option_of};
-ghost use Rattle.arena_clone.specs.KindLaws.{option_lawful};
+ghost use Rattle.arena_clone.specs.laws.KindLaws.{option_lawful};
 
 use crate::clone_in::CloneIn;
 use crate::origin::Origin;

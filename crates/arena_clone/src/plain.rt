@@ -1,7 +1,7 @@
 // Values without handles: each is its own copy.
 ghost use Rattle.std.specs.Prelude.{true};
 ghost use Rattle.arena_clone.specs.Kinds.{plain};
-ghost use Rattle.arena_clone.specs.KindLaws.{plain_lawful};
+ghost use Rattle.arena_clone.specs.laws.KindLaws.{plain_lawful};
 
 use crate::clone_in::CloneIn;
 use crate::origin::Origin;

@@ -1,10 +1,10 @@
 // Semantic ids: their byte form, and their copies.
 ghost use Rattle.std.specs.Prelude.{◌≡◌, ◌^◌, ◌<◌, refl};
 ghost use Rattle.std.specs.Int.{w32, to_le_bytes, from_le_bytes};
-ghost use Rattle.arena_items.specs.LayoutLaws.{plain_4};
-ghost use Rattle.arena_items.specs.NumberLaws.{bytes_back};
+ghost use Rattle.arena_items.specs.laws.LayoutLaws.{plain_4};
+ghost use Rattle.arena_items.specs.laws.NumberLaws.{bytes_back};
 ghost use Rattle.arena_clone.specs.Kinds.{semantic_id, id_by};
-ghost use Rattle.arena_clone.specs.KindLaws.{semantic_id_lawful};
+ghost use Rattle.arena_clone.specs.laws.KindLaws.{semantic_id_lawful};
 
 use crate::clone_in::CloneIn;
 use crate::origin::Origin;

@@ -1,6 +1,6 @@
 // Copies of bit sets.
 ghost use Rattle.arena_clone.specs.Kinds.{bit_set};
-ghost use Rattle.arena_clone.specs.KindLaws.{bit_set_lawful};
+ghost use Rattle.arena_clone.specs.laws.KindLaws.{bit_set_lawful};
 
 use crate::blocks::place_copy;
 use crate::clone_in::CloneIn;

@@ -1,6 +1,6 @@
 // Copies of boxed slices.
 ghost use Rattle.arena_clone.specs.Kinds.{slice_of};
-ghost use Rattle.arena_clone.specs.KindLaws.{slice_lawful};
+ghost use Rattle.arena_clone.specs.laws.KindLaws.{slice_lawful};
 
 use crate::blocks::place;
 use crate::clone_in::CloneIn;

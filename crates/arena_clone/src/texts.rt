@@ -1,6 +1,6 @@
 // Copies of texts.
 ghost use Rattle.arena_clone.specs.Kinds.{text};
-ghost use Rattle.arena_clone.specs.KindLaws.{text_lawful};
+ghost use Rattle.arena_clone.specs.laws.KindLaws.{text_lawful};
 
 use crate::blocks::place_copy;
 use crate::clone_in::CloneIn;

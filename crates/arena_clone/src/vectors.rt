@@ -1,6 +1,6 @@
 // Copies of vectors.
 ghost use Rattle.arena_clone.specs.Kinds.{vec_of};
-ghost use Rattle.arena_clone.specs.KindLaws.{vec_lawful};
+ghost use Rattle.arena_clone.specs.laws.KindLaws.{vec_lawful};
 
 use crate::clone_in::CloneIn;
 use crate::origin::Origin;

@@ -11,7 +11,7 @@ use Rattle.arena_items.specs.declared.room.AllocError.{AllocError}
 use Rattle.arena_exchange.specs.Asks.{Ask, PlacesAll, refusal}
 use Rattle.arena_exchange.specs.Asks.Ask.{Room}
 use Rattle.arena_exchange.specs.Kinds.{Kind, box_of}
-use Rattle.arena_exchange.specs.KindLaws.{IsLawful}
+use Rattle.arena_exchange.specs.laws.KindLaws.{IsLawful}
 use Rattle.arena_exchange.specs.Copies.{IsMade, MakesNew}
 use Rattle.arena_exchange.specs.Dummies.{Boxes, TakesBox}
 use Rattle.arena_exchange.proofs.AsksLemmas.{block_of}

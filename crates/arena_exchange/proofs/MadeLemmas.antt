@@ -17,7 +17,7 @@ use Rattle.arena_vec.specs.Held.{empty_block}
 use Rattle.arena_exchange.specs.Asks.{Ask, PlacesAll, refusal}
 use Rattle.arena_exchange.specs.Asks.Ask.{Room, Empty}
 use Rattle.arena_exchange.specs.Kinds.{Kind, plain, row_in}
-use Rattle.arena_exchange.specs.KindLaws.{IsLawful}
+use Rattle.arena_exchange.specs.laws.KindLaws.{IsLawful}
 use Rattle.arena_exchange.specs.Copies.{IsMade, MakesNew, StaysWhole}
 use Rattle.arena_exchange.proofs.ApartLemmas.{all_in_order, apart_turned}
 use Rattle.arena_exchange.proofs.AsksLemmas.{same_places, asked_then, asked_refused, block_of, refusal_leaves, one_asked}

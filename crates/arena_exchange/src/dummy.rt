@@ -1,7 +1,7 @@
 // Values that take the place of others.
 ghost use Rattle.std.specs.Prelude.{[], ◌∷◌, ◌++◌, None, List};
 ghost use Rattle.arena_exchange.specs.Kinds.{Kind, plain, option_of, box_of, slice_of, vec_of, text};
-ghost use Rattle.arena_exchange.specs.KindLaws.{IsLawful, plain_lawful, option_lawful, box_lawful, slice_lawful, vec_lawful, text_lawful};
+ghost use Rattle.arena_exchange.specs.laws.KindLaws.{IsLawful, plain_lawful, option_lawful, box_lawful, slice_lawful, vec_lawful, text_lawful};
 ghost use Rattle.arena_exchange.specs.Asks.{Ask};
 ghost use Rattle.arena_exchange.specs.Asks.Ask.{Room, Empty};
 ghost use Rattle.arena_exchange.specs.Copies.{MakesNew};

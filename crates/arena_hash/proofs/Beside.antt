@@ -9,7 +9,7 @@ use Rattle.arena_store.specs.declared.block.Block.{Block}
 use Rattle.arena_items.specs.Footprint.{AreReadable}
 use Rattle.hash_ring.specs.Slots.{items, Has}
 use Rattle.hash_ring.proofs.Places.{same_item, not_free}
-use Rattle.hash_ring.specs.AgreeLaws.{has-items}
+use Rattle.hash_ring.specs.laws.AgreeLaws.{has-items}
 use Rattle.hash_ring.proofs.Once.{all-items}
 use Rattle.arena_table.specs.Contents.{Kind}
 use Rattle.arena_table.specs.Tables.{slots_in, IsTextBeside}

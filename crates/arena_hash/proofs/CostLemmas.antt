@@ -8,7 +8,7 @@ use Rattle.arena_store.specs.declared.block.Block.{Block}
 use Rattle.arena_chunks.proofs.Layers.{asks_same}
 use Rattle.arena_items.specs.Costs.{Costs, Covers, farthest}
 use Rattle.arena_items.specs.Layout.{IsItemLayout}
-use Rattle.arena_items.specs.LayoutLaws.{IsAlign-bounds}
+use Rattle.arena_items.specs.laws.LayoutLaws.{IsAlign-bounds}
 use Rattle.arena_items.specs.Room.{MakesRoom}
 use Rattle.arena_items.specs.Values.{IsHeld}
 use Rattle.arena_items.specs.declared.room.AllocError.{AllocError}

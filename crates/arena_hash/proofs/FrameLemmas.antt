@@ -13,7 +13,7 @@ use Rattle.hash_ring.specs.Marks.{home_of}
 use Rattle.hash_ring.specs.declared.marks.Spot.{Spot}
 use Rattle.arena_table.specs.Contents.{Kind, content_in}
 use Rattle.arena_table.specs.Tables.{pair_hash, slots_in}
-use Rattle.arena_hash.specs.AgreeLaws.{slots-same, homes-same, content-same, footprint-agree, meaning-agree, held-agree}
+use Rattle.arena_hash.specs.laws.AgreeLaws.{slots-same, homes-same, content-same, footprint-agree, meaning-agree, held-agree}
 use Rattle.arena_hash.specs.Maps.{IsMapIn, IsLookIn, StaysMap, footprint}
 use Rattle.arena_hash.specs.declared.map.HashMap.{HashMap}
 use Rattle.arena_hash.specs.declared.map.Look.{Look}

@@ -10,7 +10,7 @@ use Rattle.arena_chunks.proofs.Layers.{frame_keeps}
 use Rattle.hash_ring.specs.Finite.{Finite, first_of, with_pair, without}
 use Rattle.hash_ring.specs.Policy.{limit}
 use Rattle.hash_ring.specs.Slots.{items, Has, IsOnce, Lacks, Settled, Closed, Moved}
-use Rattle.hash_ring.specs.AgreeLaws.{under-agree}
+use Rattle.hash_ring.specs.laws.AgreeLaws.{under-agree}
 use Rattle.hash_ring.proofs.Agree.{once-agree}
 use Rattle.hash_ring.proofs.Count.{count-set}
 use Rattle.hash_ring.proofs.Once.{are_once, is_once}

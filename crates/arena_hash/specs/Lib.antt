@@ -14,4 +14,4 @@ pub mod Accounts
 pub mod Changes
 pub mod Collecting
 pub mod Sets
-pub mod AgreeLaws
+pub mod laws

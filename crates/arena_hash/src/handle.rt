@@ -3,7 +3,7 @@ ghost use Rattle.hash_ring.specs.Finite.{Finite};
 ghost use Rattle.arena_table.specs.Contents.{kind};
 ghost use Rattle.arena_hash.specs.Maps.{IsMapIn, map_in, footprint};
 ghost use Rattle.arena_hash.specs.Sets.{set_kind};
-ghost use Rattle.arena_hash.specs.AgreeLaws.{footprint-agree, meaning-agree, held-agree};
+ghost use Rattle.arena_hash.specs.laws.AgreeLaws.{footprint-agree, meaning-agree, held-agree};
 
 use crate::map::HashMap;
 use crate::set::HashSet;

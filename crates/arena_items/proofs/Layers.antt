@@ -12,7 +12,7 @@ use Rattle.arena_chunks.specs.Frame.{Frame, IsApart}
 use Rattle.arena_store.specs.declared.block.Block.{Block}
 use Rattle.arena_chunks.proofs.Layers.{frame_keeps}
 use Rattle.arena_items.specs.Layout.{IsItemLayout, option_size, pair_size, second_at}
-use Rattle.arena_items.specs.LayoutLaws.{IsAlign-bounds, up-is, pair_layout}
+use Rattle.arena_items.specs.laws.LayoutLaws.{IsAlign-bounds, up-is, pair_layout}
 use Rattle.arena_items.specs.Placing.{PlacesArray}
 use Rattle.arena_items.specs.Values.{IsBoxIn, box_value}
 use Rattle.arena_items.specs.declared.item.Item.{Ghosts}

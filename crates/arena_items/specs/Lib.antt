@@ -1,14 +1,7 @@
 pub mod Layout
 pub mod ByteForms
-pub mod LayoutLaws
 pub mod NumberForms
-pub mod FormLaws
-pub mod NumberLaws
 pub mod NonZeroForms
-pub mod NonZeroLaws
-pub mod OptionLaws
-pub mod PairLaws
-pub mod HandleLaws
 pub mod Values
 pub mod Placing
 pub mod Typed
@@ -18,7 +11,7 @@ pub mod Denied
 pub mod Asks
 pub mod Rows
 pub mod Footprint
-pub mod FootprintLaws
 pub mod FrameLaw
 pub mod Beside
 pub mod Messages
+pub mod laws

@@ -2,7 +2,7 @@
 ghost use Rattle.std.specs.Prelude.{◌++◌};
 ghost use Rattle.std.proofs.Common.{subst};
 ghost use Rattle.arena_chunks.specs.Frame.{AreAllApart};
-ghost use Rattle.arena_items.specs.FootprintLaws.{readable_both, readable_parts, agree_parts};
+ghost use Rattle.arena_items.specs.laws.FootprintLaws.{readable_both, readable_parts, agree_parts};
 ghost use Rattle.arena_items.specs.Beside.{AreBeside};
 
 use crate::values::InArena;

@@ -2,8 +2,8 @@
 ghost use Rattle.std.specs.Prelude.{◌≡◌, ℕ, ◌^◌, ◌≤◌, ◌↔◌, List, IfOk, IsTrue, length, refl};
 ghost use Rattle.arena_chunks.specs.BlockCalls.{PlacesBlock, WritesBlock};
 ghost use Rattle.arena_items.specs.ByteForms.{IsBlockValue, block_bytes, block_of};
-ghost use Rattle.arena_items.specs.LayoutLaws.{plain_32_8};
-ghost use Rattle.arena_items.specs.HandleLaws.{block_back};
+ghost use Rattle.arena_items.specs.laws.LayoutLaws.{plain_32_8};
+ghost use Rattle.arena_items.specs.laws.HandleLaws.{block_back};
 ghost use Rattle.arena_items.specs.Values.{IsBoxIn, box_value};
 ghost use Rattle.arena_items.specs.Typed.{PlacesBox};
 

@@ -1,8 +1,8 @@
 // Byte forms of blocks and of texts.
 ghost use Rattle.std.specs.Prelude.{◌≡◌, ℕ, ◌^◌, ◌≤◌, List, length, refl};
 ghost use Rattle.arena_items.specs.ByteForms.{IsBlockValue, block_bytes, block_of};
-ghost use Rattle.arena_items.specs.LayoutLaws.{plain_32_8};
-ghost use Rattle.arena_items.specs.HandleLaws.{block_back};
+ghost use Rattle.arena_items.specs.laws.LayoutLaws.{plain_32_8};
+ghost use Rattle.arena_items.specs.laws.HandleLaws.{block_back};
 
 use crate::item::Item;
 use arena_chunks::{Block, Str};

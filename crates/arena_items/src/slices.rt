@@ -4,9 +4,9 @@ ghost use Rattle.std.specs.Int.{w64, from_le_bytes};
 ghost use Rattle.arena_chunks.specs.Memory.{Memory};
 ghost use Rattle.arena_chunks.specs.BlockCalls.{WritesBlock};
 ghost use Rattle.arena_items.specs.ByteForms.{IsBlockValue, block_of, slice_bytes};
-ghost use Rattle.arena_items.specs.LayoutLaws.{plain_40_8};
-ghost use Rattle.arena_items.specs.NumberLaws.{bytes_back};
-ghost use Rattle.arena_items.specs.HandleLaws.{block_back};
+ghost use Rattle.arena_items.specs.laws.LayoutLaws.{plain_40_8};
+ghost use Rattle.arena_items.specs.laws.NumberLaws.{bytes_back};
+ghost use Rattle.arena_items.specs.laws.HandleLaws.{block_back};
 ghost use Rattle.arena_items.specs.Values.{IsSliceIn, bytes_of, elements, slice_list};
 
 mod walk;

@@ -5,7 +5,7 @@ ghost use Rattle.arena_chunks.specs.Memory.{Memory, is_readable};
 ghost use Rattle.arena_store.specs.declared.block.Block.{Block};
 ghost use Rattle.arena_items.specs.Footprint.{AreReadable, Agree};
 ghost use Rattle.arena_items.specs.Values.{elements, IsBoxIn, box_value, IsSliceIn, slice_list, IsTextIn, text_bytes};
-ghost use Rattle.arena_items.specs.FootprintLaws.{held_readable, held_again, readable_both, readable_parts, agree_parts};
+ghost use Rattle.arena_items.specs.laws.FootprintLaws.{held_readable, held_again, readable_both, readable_parts, agree_parts};
 
 use crate::boxes::Box;
 use crate::item::Item;

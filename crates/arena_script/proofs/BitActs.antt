@@ -11,7 +11,7 @@ use Rattle.arena_rules.specs.PrintedBits.{printed}
 use Rattle.arena_chunks.specs.Source.{View}
 use Rattle.arena_chunks.specs.Memory.{Memory}
 use Rattle.arena_chunks.proofs.Layers.{placed_least}
-use Rattle.arena_items.specs.LayoutLaws.{plain_8}
+use Rattle.arena_items.specs.laws.LayoutLaws.{plain_8}
 use Rattle.arena_items.specs.declared.room.AllocError.{AllocError}
 use Rattle.arena_items.specs.Asks.{NoBlock, Fresh}
 use Rattle.arena_items.proofs.Layers.{row_is_layout, still, block_taken, block_asked}

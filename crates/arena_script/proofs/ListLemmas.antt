@@ -3,7 +3,7 @@ use Rattle.std.proofs.Common.{◌≡◌, ℕ, ◌+◌, ◌*◌, ◌^◌, ◌<◌
 use Rattle.std.proofs.lemmas.Bool.{cases_lt}
 use Rattle.std.proofs.lemmas.Bool.Decides.{nat_tests}
 use Rattle.std.proofs.lemmas.Option.{slice_get_past}
-use Rattle.arena_items.specs.LayoutLaws.{plain_4}
+use Rattle.arena_items.specs.laws.LayoutLaws.{plain_4}
 use Rattle.arena_items.specs.Room.{capacity_after}
 use Rattle.arena_items.specs.declared.room.Growth.TheVariants.{Stays, GrowsTo}
 use Rattle.arena_items.proofs.Layers.{length-elements, row_is_layout, zero_or_more}

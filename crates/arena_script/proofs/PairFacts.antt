@@ -5,7 +5,7 @@ use Rattle.std.specs.Int.{w32, from_le_bytes}
 use Rattle.std.proofs.lemmas.Bool.{cases_Bool}
 use Rattle.std.proofs.lemmas.Bool.Decides.{nat_tests}
 use Rattle.std.proofs.lemmas.Slice.Eq.{bytes_eq-Decides}
-use Rattle.arena_items.specs.NumberLaws.{bytes_back}
+use Rattle.arena_items.specs.laws.NumberLaws.{bytes_back}
 use Rattle.arena_hash.specs.Finite.{Finite, empty, has, value_of, with_pair, without}
 use Rattle.script_rules.specs.Objects.{get, bind, unbind, are_rising}
 use Rattle.arena_script.specs.Things.{content, pairs_of}

@@ -17,7 +17,7 @@ use Rattle.script_rules.specs.declared.commands.Command.{Command}
 use Rattle.script_rules.proofs.EntryLemmas.{get_among}
 use Rattle.arena_script.specs.Kinds.{pairs}
 use Rattle.arena_script.specs.Things.{Things, IsThingIn, object_in, objects_in, block_of, blocks_in, blocks_of, seen, AreHeldApart, AreThings}
-use Rattle.arena_script.specs.ThingLaws.{thing_readable, same_object, thing_again}
+use Rattle.arena_script.specs.laws.ThingLaws.{thing_readable, same_object, thing_again}
 use Rattle.arena_script.specs.declared.thing.Thing.{Thing}
 use Rattle.arena_script.specs.declared.thing.Thing.TheVariants as thing
 

@@ -6,7 +6,7 @@ use Rattle.arena_chunks.specs.Memory.{Memory}
 use Rattle.arena_chunks.specs.Source.{View}
 use Rattle.arena_chunks.specs.BlockCalls.{WritesBlock}
 use Rattle.arena_chunks.proofs.Layers.{placed_least}
-use Rattle.arena_items.specs.LayoutLaws.{plain_8}
+use Rattle.arena_items.specs.laws.LayoutLaws.{plain_8}
 use Rattle.arena_items.specs.Room.{SamePlaces}
 use Rattle.arena_items.specs.Values.{IsBoxIn, box_value}
 use Rattle.arena_items.specs.declared.boxes.Box.{Box}

@@ -1,6 +1,5 @@
 pub mod Kinds
 pub mod Things
-pub mod ThingLaws
 pub mod Wants
 pub mod Asks
 pub mod Places
@@ -8,3 +7,4 @@ pub mod Acts
 pub mod Serves
 pub mod Running
 pub mod OneOutcome
+pub mod laws

@@ -1,7 +1,7 @@
 // What represents an object in an arena.
 ghost use Rattle.script_rules.specs.Objects.{Object};
 ghost use Rattle.arena_script.specs.Things.{blocks_in, IsThingIn, object_in};
-ghost use Rattle.arena_script.specs.ThingLaws.{thing_readable, same_blocks, same_object, thing_again};
+ghost use Rattle.arena_script.specs.laws.ThingLaws.{thing_readable, same_blocks, same_object, thing_again};
 
 use arena_bits::BitSet;
 use arena_hash::HashMap;

@@ -15,7 +15,7 @@ use Rattle.arena_hash.specs.Maps.{IsMapIn, StaysMap, pairs_in, footprint}
 use Rattle.hash_ring.specs.declared.hasher.FxHasher.{FxHasher}
 use Rattle.arena_hash.specs.declared.map.HashMap.{HashMap}
 use Rattle.arena_hash.proofs.Layers.{map_stays}
-use Rattle.arena_symbols.specs.NameLaws.{contents_agree}
+use Rattle.arena_symbols.specs.laws.NameLaws.{contents_agree}
 use Rattle.arena_symbols.specs.Names.{blocks_of, contents_of}
 use Rattle.arena_symbols.specs.Tables.{id_kind}
 

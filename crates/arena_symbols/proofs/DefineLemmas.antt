@@ -22,7 +22,7 @@ use Rattle.arena_symbols.specs.Listing.{CanList, Lists, place_item}
 use Rattle.arena_symbols.specs.Paying.{Pays, far_up}
 use Rattle.arena_symbols.specs.Scoping.{lookup, is_in_last, with_pair, scopes_of, stands_from, most_pairs}
 use Rattle.arena_symbols.specs.TableCalls.{TakesPair, IsPairDenied, Defines}
-use Rattle.arena_symbols.specs.TableLaws.{table_of}
+use Rattle.arena_symbols.specs.laws.TableLaws.{table_of}
 use Rattle.arena_symbols.specs.Tables.{Entry, id_kind, pairs_of, newest, first_count, entries_in, recent_in, starts_in, scopes_in, table_blocks, IsTableOf, IsTableIn, table_credit}
 use Rattle.arena_symbols.specs.declared.scopes.Scopes.{Scopes}
 use Rattle.arena_symbols.proofs.BesideLemmas.{VecStays, plain_apart, vec_beside}

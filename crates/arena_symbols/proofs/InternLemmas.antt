@@ -12,7 +12,7 @@ use Rattle.arena_store.specs.declared.block.Block.{Block}
 use Rattle.arena_chunks.specs.declared.allocator.text.Str.{Str}
 use Rattle.arena_chunks.proofs.Layers.{all_from_both, all_of_both, all_among, all_each, frame_keeps_all}
 use Rattle.arena_items.specs.Footprint.{AreReadable}
-use Rattle.arena_items.specs.FootprintLaws.{readable_both}
+use Rattle.arena_items.specs.laws.FootprintLaws.{readable_both}
 use Rattle.arena_items.specs.Values.{bytes_of}
 use Rattle.arena_items.proofs.Layers.{length-elements, stays_readable, stays_agree, stays_apart}
 use Rattle.arena_items.specs.declared.room.AllocError.{AllocError}
@@ -23,7 +23,7 @@ use Rattle.arena_hash.specs.declared.map.HashMap.{HashMap}
 use Rattle.arena_vec.specs.declared.vec.Vec.{Vec}
 use Rattle.arena_symbols.specs.Interner.{number_of, most_texts}
 use Rattle.arena_symbols.specs.Listing.{CanList, Lists}
-use Rattle.arena_symbols.specs.NameLaws.{all_at, behind_same, interner_of, names_readable, names_same, texts_same, names_held_again}
+use Rattle.arena_symbols.specs.laws.NameLaws.{all_at, behind_same, interner_of, names_readable, names_same, texts_same, names_held_again}
 use Rattle.arena_symbols.specs.Names.{name_kind, blocks_of, contents_of, texts_in, names_in, own_blocks, names_footprint, IsInternerIn}
 use Rattle.arena_symbols.specs.declared.symbols.Symbols.{Symbols}
 use Rattle.arena_symbols.proofs.BesideLemmas.{texts_beside}

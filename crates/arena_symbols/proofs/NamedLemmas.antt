@@ -22,7 +22,7 @@ use Rattle.arena_symbols.specs.Names.{names_in, own_blocks, names_footprint, nam
 use Rattle.arena_symbols.specs.Scoping.{innermost, is_in_last, outer_of, with_pair, pair_count, most_scopes, most_pairs}
 use Rattle.arena_symbols.specs.Paying.{Pays, far_up}
 use Rattle.arena_symbols.specs.TableCalls.{TakesPair, IsPairDenied, Defines}
-use Rattle.arena_symbols.specs.TableLaws.{table_readable, table_same, table_held_again}
+use Rattle.arena_symbols.specs.laws.TableLaws.{table_readable, table_same, table_held_again}
 use Rattle.arena_symbols.specs.Tables.{entry_item, IsTableIn, scopes_in, table_blocks, table_credit}
 use Rattle.arena_symbols.specs.declared.scopes.Scopes.{Scopes}
 use Rattle.arena_symbols.specs.declared.symbols.Symbols.{Symbols}

@@ -15,7 +15,7 @@ use Rattle.arena_store.specs.declared.block.Block.{Block}
 use Rattle.arena_chunks.proofs.Layers.{asks_same}
 use Rattle.arena_items.specs.Costs.{used, Costs, Covers, farthest}
 use Rattle.arena_items.specs.Layout.{IsItemLayout}
-use Rattle.arena_items.specs.LayoutLaws.{plain_1}
+use Rattle.arena_items.specs.laws.LayoutLaws.{plain_1}
 use Rattle.arena_items.specs.Room.{capacity_after, MakesRoom, SamePlaces, TakesRoom, RoomAnswer}
 use Rattle.arena_items.specs.Values.{IsHeld}
 use Rattle.arena_items.specs.declared.item.Item.{Ghosts}

@@ -7,7 +7,7 @@ use Rattle.arena_chunks.specs.Memory.{Memory}
 use Rattle.arena_chunks.specs.Source.{View}
 use Rattle.arena_chunks.proofs.Layers.{frame_reflexive, frame_behind}
 use Rattle.arena_items.specs.Asks.{Asked, refusal}
-use Rattle.arena_items.specs.LayoutLaws.{plain_4}
+use Rattle.arena_items.specs.laws.LayoutLaws.{plain_4}
 use Rattle.arena_items.specs.declared.item.Item.{Ghosts}
 use Rattle.arena_items.specs.declared.room.AllocError.{AllocError}
 use Rattle.arena_items.specs.declared.room.AllocError.TheVariants.{CapacityOverflow}
@@ -25,7 +25,7 @@ use Rattle.arena_symbols.specs.Paying.{Pays, far_up}
 use Rattle.arena_symbols.specs.Scoping.{scopes_of}
 use Rattle.arena_symbols.specs.Tables.{Entry, id_kind, pairs_of, entries_in, starts_in, scopes_in, table_blocks, IsTableIn, table_credit}
 use Rattle.arena_symbols.specs.TableCalls.{TakesScope, Enters}
-use Rattle.arena_symbols.specs.TableLaws.{table_of}
+use Rattle.arena_symbols.specs.laws.TableLaws.{table_of}
 use Rattle.arena_symbols.specs.declared.scopes.Scopes.{Scopes}
 use Rattle.arena_symbols.proofs.AskLemmas.{list_taken, list_asked}
 use Rattle.arena_symbols.proofs.BesideLemmas.{plain_beside, vec_beside}

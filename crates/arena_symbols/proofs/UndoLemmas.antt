@@ -19,7 +19,7 @@ use Rattle.hash_ring.specs.declared.hasher.FxHasher.{FxHasher}
 use Rattle.arena_hash.specs.declared.map.HashMap.{HashMap}
 use Rattle.arena_symbols.specs.Listing.{place_item}
 use Rattle.arena_symbols.specs.TableCalls.{Cuts, Unhides}
-use Rattle.arena_symbols.specs.TableLaws.{table_of}
+use Rattle.arena_symbols.specs.laws.TableLaws.{table_of}
 use Rattle.arena_symbols.specs.Tables.{Entry, id_kind, entries_in, recent_in, starts_in, table_blocks, IsTableOf, IsTableIn}
 use Rattle.arena_symbols.specs.declared.scopes.Scopes.{Scopes}
 use Rattle.arena_symbols.proofs.BesideLemmas.{vec_beside}

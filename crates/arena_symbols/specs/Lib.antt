@@ -7,8 +7,7 @@ pub mod Names
 pub mod Interning
 pub mod Tables
 pub mod TableCalls
-pub mod NameLaws
-pub mod TableLaws
 pub mod Named
 pub mod Calls
 pub mod Serving
+pub mod laws

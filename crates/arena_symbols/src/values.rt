@@ -1,8 +1,8 @@
 // What the handles of interners and of scoped tables mean.
 ghost use Rattle.std.specs.Prelude.{ℕ, List, refl};
-ghost use Rattle.arena_symbols.specs.NameLaws.{names_readable, names_same_footprint, names_same, names_held_again};
+ghost use Rattle.arena_symbols.specs.laws.NameLaws.{names_readable, names_same_footprint, names_same, names_held_again};
 ghost use Rattle.arena_symbols.specs.Names.{IsInternerIn, names_in, names_footprint};
-ghost use Rattle.arena_symbols.specs.TableLaws.{table_readable, table_same, table_held_again};
+ghost use Rattle.arena_symbols.specs.laws.TableLaws.{table_readable, table_same, table_held_again};
 ghost use Rattle.arena_symbols.specs.Tables.{entry_item, IsTableIn, scopes_in, table_blocks};
 
 use crate::scopes::Scopes;

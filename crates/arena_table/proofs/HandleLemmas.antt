@@ -9,7 +9,7 @@ use Rattle.arena_chunks.specs.Frame.{Frame, Stays}
 use Rattle.arena_store.specs.declared.block.Block.{Block}
 use Rattle.arena_chunks.proofs.Layers.{length-bytes, wrote_whole, frame_keeps}
 use Rattle.hash_ring.specs.Slots.{Has}
-use Rattle.hash_ring.specs.AgreeLaws.{ordered-agree, away-agree}
+use Rattle.hash_ring.specs.laws.AgreeLaws.{ordered-agree, away-agree}
 use Rattle.arena_items.specs.declared.item.Item.{Ghosts}
 use Rattle.arena_items.specs.Values.{bytes_of}
 use Rattle.hash_ring.specs.Marks.{home_of, mark_of}

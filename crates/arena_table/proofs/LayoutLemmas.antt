@@ -6,7 +6,7 @@ use Rattle.std.proofs.lemmas.Bool.Decides.{nat_tests}
 use Rattle.std.proofs.Math.Nat.{zero-mod}
 use Rattle.arena_rules.specs.Rounding.{up, is_layout, is_power}
 use Rattle.arena_items.specs.Layout.{IsAlign, IsItemLayout}
-use Rattle.arena_items.specs.LayoutLaws.{IsAlign-bounds, up-is, plain_8, pair_layout}
+use Rattle.arena_items.specs.laws.LayoutLaws.{IsAlign-bounds, up-is, plain_8, pair_layout}
 use Rattle.arena_items.proofs.Layers.{row_is_layout}
 use Rattle.hash_ring.specs.Policy.{table_align, slot_size}
 use Rattle.hash_ring.proofs.PolicyLemmas.{table-small}

@@ -1,7 +1,7 @@
 // A text as a value in an arena.
 ghost use Rattle.std.specs.Prelude.{ℕ, List, [], ◌∷◌, take, refl};
 ghost use Rattle.std.proofs.Common.{ap};
-ghost use Rattle.arena_items.specs.FootprintLaws.{held_readable, held_again};
+ghost use Rattle.arena_items.specs.laws.FootprintLaws.{held_readable, held_again};
 ghost use Rattle.arena_text.specs.Builders.{IsBuilderIn, builder_bytes};
 
 use crate::text::StringBuilder;

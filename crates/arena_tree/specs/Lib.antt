@@ -1,8 +1,8 @@
 pub use Rattle.tree_nodes.specs.NodeForms
 pub use Rattle.tree_nodes.specs.TreesAt
-pub use Rattle.tree_nodes.specs.TreeLaws
+pub use Rattle.tree_nodes.specs.laws.TreeLaws
 pub use Rattle.tree_nodes.specs.StmtsAt
-pub use Rattle.tree_nodes.specs.StmtLaws
+pub use Rattle.tree_nodes.specs.laws.StmtLaws
 pub use Rattle.tree_nodes.specs.Counts
 pub use Rattle.tree_nodes.specs.Lists
 pub use Rattle.tree_nodes.specs.Subtrees

@@ -4,8 +4,8 @@ use Rattle.std.specs.Int.{w32, to_le_bytes, from_le_bytes}
 use Rattle.arena_chunks.specs.Memory.{Memory}
 use Rattle.arena_items.specs.declared.item.Item.{Ghosts}
 use Rattle.arena_items.specs.ByteForms.{IsBlockValue, block_bytes, block_of}
-use Rattle.arena_items.specs.HandleLaws.{block_back}
-use Rattle.arena_items.specs.NumberLaws.{bytes_back}
+use Rattle.arena_items.specs.laws.HandleLaws.{block_back}
+use Rattle.arena_items.specs.laws.NumberLaws.{bytes_back}
 use Rattle.raw_vec.specs.Held.{IsRawIn, raw_list}
 use Rattle.arena_vec.specs.declared.vec.Vec.{Vec}
 

@@ -1,10 +1,10 @@
 // The byte form of a vector's handle, and what the handle means.
 ghost use Rattle.std.specs.Prelude.{◌≡◌, List, [], ◌∷◌, refl};
-ghost use Rattle.arena_items.specs.LayoutLaws.{plain_40_8};
+ghost use Rattle.arena_items.specs.laws.LayoutLaws.{plain_40_8};
 ghost use Rattle.arena_vec.specs.Vecs.{IsVecIn, vec_list, IsHandleValue, handle_bytes, handle_of, handle_back};
 ghost use Rattle.std.proofs.Common.{ap};
 ghost use Rattle.arena_items.specs.Values.{elements};
-ghost use Rattle.arena_items.specs.FootprintLaws.{held_readable, held_again};
+ghost use Rattle.arena_items.specs.laws.FootprintLaws.{held_readable, held_again};
 
 use crate::vec::Vec;
 use arena_chunks::Block;

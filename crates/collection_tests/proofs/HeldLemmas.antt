@@ -11,7 +11,7 @@ use Rattle.arena_chunks.specs.Frame.{Frame, AreAllApart, AreBlocksApart}
 use Rattle.arena_store.specs.declared.block.Block.{Block}
 use Rattle.arena_chunks.proofs.Layers.{frame_keeps_all}
 use Rattle.arena_items.proofs.Layers.{stays_agree, stays_apart, stays_readable}
-use Rattle.arena_hash.specs.AgreeLaws.{held-agree}
+use Rattle.arena_hash.specs.laws.AgreeLaws.{held-agree}
 use Rattle.arena_hash.specs.Contents.{Key, Kind}
 use Rattle.arena_hash.specs.Maps.{footprint}
 use Rattle.arena_hash.specs.Slots.{items}

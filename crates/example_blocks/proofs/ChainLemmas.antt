@@ -12,7 +12,7 @@ use Rattle.arena_items.specs.Typed.{PlacesBox}
 use Rattle.arena_items.proofs.Layers.{box_held, box_same}
 use Rattle.example_blocks.specs.declared.linked.Chain.{Chain}
 use Rattle.example_blocks.specs.Chains.{First, Second, IsChain, second, third, numbers, blocks}
-use Rattle.example_blocks.specs.ChainLaws.{chain_is, numbers_are, blocks_are}
+use Rattle.example_blocks.specs.laws.ChainLaws.{chain_is, numbers_are, blocks_are}
 
 -- A chain of three boxes is held, with its numbers, and what was in use stays.
 pub made : (inner : Ghosts Second) (number : Ghosts ℕ) (v0 v1 v2 : View) (y z : ℕ) (last : Box ℕ) (link : Box Second)

@@ -4,7 +4,6 @@ pub mod Buffers
 pub mod Accounts
 pub mod TwoValues
 pub mod Chains
-pub mod ChainLaws
 pub mod Rows
 pub mod Objects
-pub mod ObjectLaws
+pub mod laws

@@ -5,7 +5,7 @@ ghost use Rattle.arena_items.specs.Typed.{PlacesBox};
 ghost use Rattle.arena_items.specs.Values.{box_value};
 ghost use Rattle.example_blocks.specs.Chains.{IsChain, third, blocks, numbers};
 ghost use Rattle.example_blocks.specs.TwoValues.{PlacesThen, box_in};
-ghost use Rattle.example_blocks.specs.ChainLaws.{chain_readable, chain_blocks, chain_numbers, chain_again};
+ghost use Rattle.example_blocks.specs.laws.ChainLaws.{chain_readable, chain_blocks, chain_numbers, chain_again};
 
 use arena_chunks::{Allocator, ChunkSource};
 use arena_items::laws::frame_law;

@@ -1,8 +1,8 @@
 // A type of the caller's own that can be placed in an arena.
 ghost use Rattle.std.specs.Prelude.{◌≡◌, ◌^◌, ◌<◌, ◌≤◌, List, ℕ, length, refl};
 ghost use Rattle.std.specs.Int.{w32, to_le_bytes, from_le_bytes};
-ghost use Rattle.arena_items.specs.LayoutLaws.{plain_4};
-ghost use Rattle.arena_items.specs.NumberLaws.{bytes_back};
+ghost use Rattle.arena_items.specs.laws.LayoutLaws.{plain_4};
+ghost use Rattle.arena_items.specs.laws.NumberLaws.{bytes_back};
 
 use arena_items::Item;
 

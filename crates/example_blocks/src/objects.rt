@@ -3,7 +3,7 @@ ghost use Rattle.std.specs.Prelude.{◌≡◌, ℕ, ◌⊎◌, ◌^◌, ◌≤�
 ghost use Rattle.arena_chunks.specs.Frame.{AreAllApart};
 ghost use Rattle.arena_items.specs.Values.{IsBoxIn, IsSliceIn, box_value, slice_list};
 ghost use Rattle.example_blocks.specs.Objects.{blocks, is_object, meaning};
-ghost use Rattle.example_blocks.specs.ObjectLaws.{object_readable, object_meaning, object_again};
+ghost use Rattle.example_blocks.specs.laws.ObjectLaws.{object_readable, object_meaning, object_again};
 
 use arena_chunks::{Allocator, ChunkSource, Str};
 use arena_items::laws::frame_law;

@@ -9,7 +9,7 @@ use Rattle.arena_store.specs.declared.block.Block.{Block}
 use Rattle.arena_items.specs.declared.room.AllocError.{AllocError}
 use Rattle.arena_vec.specs.declared.vec.Vec.{Vec}
 use Rattle.arena_clone.specs.Kinds.{Kind, text, semantic_id}
-use Rattle.arena_clone.specs.KindLaws.{IsLawful, text_lawful, semantic_id_lawful}
+use Rattle.arena_clone.specs.laws.KindLaws.{IsLawful, text_lawful, semantic_id_lawful}
 use Rattle.arena_clone.specs.Copies.{Copies}
 use Rattle.arena_clone.specs.Origins.{IsOrigin}
 use Rattle.arena_exchange.specs.declared.ids.CloneInSemanticIds.{CloneInSemanticIds}

@@ -2,9 +2,8 @@ pub mod Ranking
 pub mod Pushing
 pub mod Seeded
 pub mod Branches
-pub mod BranchLaws
 pub mod CopyAndPush
 pub mod Nodes
-pub mod NodeLaws
 pub mod Through
 pub mod Texts
+pub mod laws

@@ -1,7 +1,7 @@
 // A tree of the caller's own types, which is copied part by part.
 ghost use Rattle.arena_clone.specs.Kinds.{vec_of};
 ghost use Rattle.example_collections.specs.Branches.{branch_of};
-ghost use Rattle.example_collections.specs.BranchLaws.{branch_lawful};
+ghost use Rattle.example_collections.specs.laws.BranchLaws.{branch_lawful};
 
 use arena_chunks::{Allocator, ChunkSource, Str};
 use arena_clone::{CloneIn, CloneInSemanticIds, Grown, Origin, SemanticId};

@@ -1,7 +1,7 @@
 // An enum of the caller's own, which is copied by its variants.
 ghost use Rattle.arena_clone.specs.Kinds.{vec_of};
 ghost use Rattle.example_collections.specs.Nodes.{node_of};
-ghost use Rattle.example_collections.specs.NodeLaws.{node_lawful};
+ghost use Rattle.example_collections.specs.laws.NodeLaws.{node_lawful};
 
 use arena_chunks::{Allocator, ChunkSource, Str};
 use arena_clone::{CloneIn, CloneInSemanticIds, Grown, Origin};

@@ -1,5 +1,5 @@
 -- What a tree's handle means, as proofs name it.
-use Rattle.arena_ast.specs.AstLaws.{ast_kind}
+use Rattle.arena_ast.specs.laws.AstLaws.{ast_kind}
 use Rattle.arena_ast.specs.Forms.{by_parts, pair_item, byte, word}
 use Rattle.arena_ast.specs.declared.ast.Ast.{Ast}
 use Rattle.arena_ast.specs.declared.by_parts.ByParts.{ByParts}

@@ -5,7 +5,7 @@ use Rattle.std.proofs.lemmas.Bool.{both_ways, false_from_ne_true}
 use Rattle.std.proofs.lemmas.Slice.Eq.{bytes_eq-Decides}
 use Rattle.std.specs.Prelude.{slice_get, bytes_eq}
 use Rattle.std.specs.List.{IsDistinct, AllByRecursion}
-use Rattle.hash_ring.specs.AgreeLaws.{has-items}
+use Rattle.hash_ring.specs.laws.AgreeLaws.{has-items}
 use Rattle.hash_ring.specs.Finite.{AreOnce}
 use Rattle.hash_ring.specs.Slots.{items, Has, IsOnce}
 use Rattle.hash_ring.proofs.Places.{same_item, not_free}

@@ -6,4 +6,4 @@ pub mod Slots
 pub mod Marks
 pub mod Searches
 pub mod Walks
-pub mod AgreeLaws
+pub mod laws

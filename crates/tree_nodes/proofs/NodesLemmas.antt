@@ -16,7 +16,7 @@ use Rattle.tree_rules.specs.Trees as tree
 use Rattle.tree_nodes.specs.declared.node.Node.{Node}
 use Rattle.tree_nodes.specs.TreesAt.{node_item, kids_of, kids_in, IsOnly, of_first, ExprAt, ExprsAt}
 use Rattle.tree_nodes.specs.StmtsAt.{StmtAt, StmtsAt}
-use Rattle.tree_nodes.specs.StmtLaws.{stmts_readable}
+use Rattle.tree_nodes.specs.laws.StmtLaws.{stmts_readable}
 use Rattle.tree_nodes.specs.Lists.{expr_lists, exprs_lists, stmt_lists, stmts_lists}
 use Rattle.tree_nodes.specs.Counts.{below, nodes, below_stmt, stmt_nodes}
 use Rattle.tree_nodes.proofs.PartsLemmas.{parts_readable, stmts_parts}

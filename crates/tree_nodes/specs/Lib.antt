@@ -1,11 +1,10 @@
 pub mod NodeForms
 pub mod TreesAt
-pub mod TreeLaws
 pub mod StmtsAt
-pub mod StmtLaws
 pub mod Counts
 pub mod Lists
 pub mod Subtrees
 pub mod Layouts
 pub mod Asking
 pub mod Spending
+pub mod laws

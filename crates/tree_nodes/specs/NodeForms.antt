@@ -3,8 +3,8 @@ use Rattle.std.specs.Prelude.{◌≡◌, ℕ, ◌^◌, ◌<◌, List, ◌++◌, 
 use Rattle.std.specs.Int.{w32, w64, to_le_bytes, from_le_bytes}
 use Rattle.std.proofs.Common.{arith}
 use Rattle.arena_items.specs.ByteForms.{IsBlockValue, block_bytes, block_of}
-use Rattle.arena_items.specs.HandleLaws.{block_back}
-use Rattle.arena_items.specs.NumberLaws.{bytes_back}
+use Rattle.arena_items.specs.laws.HandleLaws.{block_back}
+use Rattle.arena_items.specs.laws.NumberLaws.{bytes_back}
 use Rattle.arena_items.specs.Layout.{IsItemLayout}
 use Rattle.arena_items.specs.Layout.IsAlign.{eight}
 use Rattle.arena_chunks.specs.declared.allocator.text.Str.{Str}

@@ -1,7 +1,7 @@
 // Dummies of nodes, and their exchange.
 ghost use Rattle.std.specs.Prelude.{[]};
 ghost use Rattle.arena_exchange.specs.Kinds.{plain};
-ghost use Rattle.arena_exchange.specs.KindLaws.{plain_lawful};
+ghost use Rattle.arena_exchange.specs.laws.KindLaws.{plain_lawful};
 ghost use Rattle.tree_nodes.specs.NodeForms.{number_node};
 
 use crate::build::number;

@@ -1,7 +1,7 @@
 // The dummies of numbers that are not 0: the minimum of each type.
 ghost use Rattle.std.specs.Prelude.{[], pos};
 ghost use Rattle.arena_exchange.specs.Kinds.{plain};
-ghost use Rattle.arena_exchange.specs.KindLaws.{plain_lawful};
+ghost use Rattle.arena_exchange.specs.laws.KindLaws.{plain_lawful};
 ghost use Rattle.arena_items.specs.NonZeroForms.{non_zero_u8, non_zero_u16, non_zero_u32, non_zero_u64, non_zero_u128, non_zero_usize, non_zero_i8, non_zero_i16, non_zero_i32, non_zero_i64, non_zero_i128, non_zero_isize};
 
 use crate::dummy::Dummy;

@@ -1,7 +1,7 @@
 // The dummies of numbers, of bool and of ().
 ghost use Rattle.std.specs.Prelude.{[], false, pos};
 ghost use Rattle.arena_exchange.specs.Kinds.{plain};
-ghost use Rattle.arena_exchange.specs.KindLaws.{plain_lawful};
+ghost use Rattle.arena_exchange.specs.laws.KindLaws.{plain_lawful};
 
 use crate::dummy::Dummy;
 use arena_chunks::{Allocator, ChunkSource};

@@ -1,10 +1,10 @@
 // Signed numbers that are not 0: the bytes of the number. The bytes of 0 decode to the type's minimum.
 ghost use Rattle.std.specs.Prelude.{FitsSigned, refl};
 ghost use Rattle.std.specs.Int.{w8, w16, w32, w64, w128};
-ghost use Rattle.arena_items.specs.LayoutLaws.{plain_1, plain_2, plain_4, plain_8, plain_16};
+ghost use Rattle.arena_items.specs.laws.LayoutLaws.{plain_1, plain_2, plain_4, plain_8, plain_16};
 ghost use Rattle.arena_items.specs.NumberForms.{signed_bytes, signed_of};
 ghost use Rattle.arena_items.specs.NonZeroForms.{non_zero_i8, non_zero_i16, non_zero_i32, non_zero_i64, non_zero_i128, non_zero_isize};
-ghost use Rattle.arena_items.specs.NonZeroLaws.{not_0_back, same_i8, same_i16, same_i32, same_i64, same_i128, same_isize};
+ghost use Rattle.arena_items.specs.laws.NonZeroLaws.{not_0_back, same_i8, same_i16, same_i32, same_i64, same_i128, same_isize};
 
 use crate::item::Item;
 use std::num::{NonZeroI8, NonZeroI16, NonZeroI32, NonZeroI64, NonZeroI128, NonZeroIsize};
@@ -38,7 +38,7 @@ impl Item for NonZeroI8 {
         self.get().encode(out);
     }
 
-    #[tactic(auto, using(crate::specs::NonZeroLaws::same_i8))]
+    #[tactic(auto, using(crate::specs::laws::NonZeroLaws::same_i8))]
     fn decode(bytes: &[u8]) -> Self {
         NonZeroI8::new(i8::decode(bytes)).unwrap_or(NonZeroI8::MIN)
     }
@@ -73,7 +73,7 @@ impl Item for NonZeroI16 {
         self.get().encode(out);
     }
 
-    #[tactic(auto, using(crate::specs::NonZeroLaws::same_i16))]
+    #[tactic(auto, using(crate::specs::laws::NonZeroLaws::same_i16))]
     fn decode(bytes: &[u8]) -> Self {
         NonZeroI16::new(i16::decode(bytes)).unwrap_or(NonZeroI16::MIN)
     }
@@ -108,7 +108,7 @@ impl Item for NonZeroI32 {
         self.get().encode(out);
     }
 
-    #[tactic(auto, using(crate::specs::NonZeroLaws::same_i32))]
+    #[tactic(auto, using(crate::specs::laws::NonZeroLaws::same_i32))]
     fn decode(bytes: &[u8]) -> Self {
         NonZeroI32::new(i32::decode(bytes)).unwrap_or(NonZeroI32::MIN)
     }
@@ -143,7 +143,7 @@ impl Item for NonZeroI64 {
         self.get().encode(out);
     }
 
-    #[tactic(auto, using(crate::specs::NonZeroLaws::same_i64))]
+    #[tactic(auto, using(crate::specs::laws::NonZeroLaws::same_i64))]
     fn decode(bytes: &[u8]) -> Self {
         NonZeroI64::new(i64::decode(bytes)).unwrap_or(NonZeroI64::MIN)
     }
@@ -178,7 +178,7 @@ impl Item for NonZeroI128 {
         self.get().encode(out);
     }
 
-    #[tactic(auto, using(crate::specs::NonZeroLaws::same_i128))]
+    #[tactic(auto, using(crate::specs::laws::NonZeroLaws::same_i128))]
     fn decode(bytes: &[u8]) -> Self {
         NonZeroI128::new(i128::decode(bytes)).unwrap_or(NonZeroI128::MIN)
     }
@@ -213,7 +213,7 @@ impl Item for NonZeroIsize {
         self.get().encode(out);
     }
 
-    #[tactic(auto, using(crate::specs::NonZeroLaws::same_isize))]
+    #[tactic(auto, using(crate::specs::laws::NonZeroLaws::same_isize))]
     fn decode(bytes: &[u8]) -> Self {
         NonZeroIsize::new(isize::decode(bytes)).unwrap_or(NonZeroIsize::MIN)
     }

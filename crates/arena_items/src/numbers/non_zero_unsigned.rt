@@ -1,9 +1,9 @@
 // Unsigned numbers that are not 0: the bytes of the number. The bytes of 0 decode to 1.
 ghost use Rattle.std.specs.Prelude.{◌^◌, ◌<◌, [], ◌∷◌, slice_index, refl};
 ghost use Rattle.std.specs.Int.{w16, w32, w64, w128, to_le_bytes, from_le_bytes};
-ghost use Rattle.arena_items.specs.LayoutLaws.{plain_1, plain_2, plain_4, plain_8, plain_16};
+ghost use Rattle.arena_items.specs.laws.LayoutLaws.{plain_1, plain_2, plain_4, plain_8, plain_16};
 ghost use Rattle.arena_items.specs.NonZeroForms.{non_zero_u8, non_zero_u16, non_zero_u32, non_zero_u64, non_zero_u128, non_zero_usize};
-ghost use Rattle.arena_items.specs.NonZeroLaws.{above_0_back, max_back, same_u8, same_u16, same_u32, same_u64, same_u128, same_usize};
+ghost use Rattle.arena_items.specs.laws.NonZeroLaws.{above_0_back, max_back, same_u8, same_u16, same_u32, same_u64, same_u128, same_usize};
 
 use crate::item::Item;
 use std::num::{NonZeroU8, NonZeroU16, NonZeroU32, NonZeroU64, NonZeroU128, NonZeroUsize};
@@ -37,7 +37,7 @@ impl Item for NonZeroU8 {
         self.get().encode(out);
     }
 
-    #[tactic(auto, using(crate::specs::NonZeroLaws::same_u8))]
+    #[tactic(auto, using(crate::specs::laws::NonZeroLaws::same_u8))]
     fn decode(bytes: &[u8]) -> Self {
         NonZeroU8::new(u8::decode(bytes)).unwrap_or(NonZeroU8::MIN)
     }
@@ -72,7 +72,7 @@ impl Item for NonZeroU16 {
         self.get().encode(out);
     }
 
-    #[tactic(auto, using(crate::specs::NonZeroLaws::same_u16))]
+    #[tactic(auto, using(crate::specs::laws::NonZeroLaws::same_u16))]
     fn decode(bytes: &[u8]) -> Self {
         NonZeroU16::new(u16::decode(bytes)).unwrap_or(NonZeroU16::MIN)
     }
@@ -107,7 +107,7 @@ impl Item for NonZeroU32 {
         self.get().encode(out);
     }
 
-    #[tactic(auto, using(crate::specs::NonZeroLaws::same_u32))]
+    #[tactic(auto, using(crate::specs::laws::NonZeroLaws::same_u32))]
     fn decode(bytes: &[u8]) -> Self {
         NonZeroU32::new(u32::decode(bytes)).unwrap_or(NonZeroU32::MIN)
     }
@@ -142,7 +142,7 @@ impl Item for NonZeroU64 {
         self.get().encode(out);
     }
 
-    #[tactic(auto, using(crate::specs::NonZeroLaws::same_u64))]
+    #[tactic(auto, using(crate::specs::laws::NonZeroLaws::same_u64))]
     fn decode(bytes: &[u8]) -> Self {
         NonZeroU64::new(u64::decode(bytes)).unwrap_or(NonZeroU64::MIN)
     }
@@ -177,7 +177,7 @@ impl Item for NonZeroU128 {
         self.get().encode(out);
     }
 
-    #[tactic(auto, using(crate::specs::NonZeroLaws::same_u128))]
+    #[tactic(auto, using(crate::specs::laws::NonZeroLaws::same_u128))]
     fn decode(bytes: &[u8]) -> Self {
         NonZeroU128::new(u128::decode(bytes)).unwrap_or(NonZeroU128::MIN)
     }
@@ -212,7 +212,7 @@ impl Item for NonZeroUsize {
         self.get().encode(out);
     }
 
-    #[tactic(auto, using(crate::specs::NonZeroLaws::same_usize))]
+    #[tactic(auto, using(crate::specs::laws::NonZeroLaws::same_usize))]
     fn decode(bytes: &[u8]) -> Self {
         NonZeroUsize::new(usize::decode(bytes)).unwrap_or(NonZeroUsize::MIN)
     }

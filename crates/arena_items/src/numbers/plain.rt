@@ -2,9 +2,9 @@
 ghost use Rattle.std.specs.Prelude.{true, false, [], refl};
 ghost use Rattle.std.specs.Int.{w32, to_le_bytes, from_le_bytes};
 ghost use Rattle.std.specs.Char.{IsScalar};
-ghost use Rattle.arena_items.specs.LayoutLaws.{plain_0, plain_1, plain_4};
+ghost use Rattle.arena_items.specs.laws.LayoutLaws.{plain_0, plain_1, plain_4};
 ghost use Rattle.arena_items.specs.NumberForms.{bool_bytes, bool_of, scalar_or_0};
-ghost use Rattle.arena_items.specs.NumberLaws.{char_back};
+ghost use Rattle.arena_items.specs.laws.NumberLaws.{char_back};
 
 use crate::item::Item;
 

@@ -1,9 +1,9 @@
 // Signed numbers: the bytes of their two's complement, the lowest first.
 ghost use Rattle.std.specs.Prelude.{FitsSigned, refl};
 ghost use Rattle.std.specs.Int.{w8, w16, w32, w64, w128};
-ghost use Rattle.arena_items.specs.LayoutLaws.{plain_1, plain_2, plain_4, plain_8, plain_16};
+ghost use Rattle.arena_items.specs.laws.LayoutLaws.{plain_1, plain_2, plain_4, plain_8, plain_16};
 ghost use Rattle.arena_items.specs.NumberForms.{signed_bytes, signed_of};
-ghost use Rattle.arena_items.specs.NumberLaws.{signed_back};
+ghost use Rattle.arena_items.specs.laws.NumberLaws.{signed_back};
 
 use crate::item::Item;
 use crate::numbers::bytes::array;

@@ -1,8 +1,8 @@
 // Unsigned numbers: their bytes, the lowest first.
 ghost use Rattle.std.specs.Prelude.{◌^◌, ◌<◌, [], ◌∷◌, slice_index, refl};
 ghost use Rattle.std.specs.Int.{w16, w32, w64, w128, to_le_bytes, from_le_bytes};
-ghost use Rattle.arena_items.specs.LayoutLaws.{plain_1, plain_2, plain_4, plain_8, plain_16};
-ghost use Rattle.arena_items.specs.NumberLaws.{bytes_back};
+ghost use Rattle.arena_items.specs.laws.LayoutLaws.{plain_1, plain_2, plain_4, plain_8, plain_16};
+ghost use Rattle.arena_items.specs.laws.NumberLaws.{bytes_back};
 
 use crate::item::Item;
 use crate::numbers::bytes::array;
@@ -176,7 +176,7 @@ impl Item for u128 {
         let _value = *self;
     }
 
-    #[tactic(auto, using(crate::specs::NumberLaws::halves))]
+    #[tactic(auto, using(crate::specs::laws::NumberLaws::halves))]
     fn encode(self, out: &mut [u8]) {
         let (low, high) = out.split_at_mut(8);
         ((self % HALF) as u64).encode(low);

@@ -1,5 +1,5 @@
 use Rattle.std.proofs.Common.{arith}
-use Rattle.arena_items.specs.LayoutLaws.{plain_8}
+use Rattle.arena_items.specs.laws.LayoutLaws.{plain_8}
 use Rattle.arena_items.proofs.Layers.{pair_at_most}
 use Rattle.example_blocks.proofs.beside.place_pair.Goals as goal
 

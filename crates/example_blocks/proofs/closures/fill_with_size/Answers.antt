@@ -1,6 +1,6 @@
 use Rattle.std.proofs.Common.{◌*◌, ◌∙◌, ap, replicate, rules}
 use Rattle.std.proofs.iter.Serving.{serving}
-use Rattle.arena_items.specs.LayoutLaws.{plain_8}
+use Rattle.arena_items.specs.laws.LayoutLaws.{plain_8}
 use Rattle.arena_items.proofs.Layers.{array_fits, fills_same, length-elements}
 use Rattle.example_blocks.proofs.closures.fill_with_size.Goals as goal
 

@@ -1,7 +1,7 @@
 use Rattle.std.proofs.Common.{List, [], ◌∷◌, ◌++◌, ap, refl, subst, ◌∙◌}
 use Rattle.std.proofs.lemmas.Result.{err_from_is_err_and}
 use Rattle.arena_clone.specs.Copies.{IsMade}
-use Rattle.arena_clone.specs.KindLaws.{vec_lawful}
+use Rattle.arena_clone.specs.laws.KindLaws.{vec_lawful}
 use Rattle.arena_clone.specs.Kinds.{vec_of}
 use Rattle.arena_clone.proofs.Layers.{made_readable}
 use Rattle.example_collections.proofs.BesideLemmas.{first_apart, beside_apart, beside_frame}

@@ -2,7 +2,7 @@ use Rattle.std.proofs.lemmas.Bool.Decides.{nat_tests}
 use Rattle.std.proofs.Common.{arith}
 use Rattle.std.proofs.lemmas.Result.{err_from_is_err_and}
 use Rattle.arena_hash.specs.Contents.{kind}
-use Rattle.arena_clone.specs.MapLaws.{map_lawful}
+use Rattle.arena_clone.specs.laws.MapLaws.{map_lawful}
 use Rattle.arena_clone.proofs.OriginLemmas.{placed_held, placed_beside, placed_copied}
 use Rattle.arena_clone.proofs.MapLemmas.{table_empty, map_refused, map_pair_refused, map_made}
 use Rattle.arena_clone.proofs.maps.HashMapCloneIn.copy_of.Goals as goal

@@ -5,7 +5,7 @@ use Rattle.arena_chunks.proofs.Layers.{apart_empty}
 use Rattle.arena_items.specs.Layout.{pair_size, second_at, option_size}
 use Rattle.arena_hash.specs.Finite.{Finite, value_of}
 use Rattle.arena_symbols.specs.Scoping.{scopes_of}
-use Rattle.arena_symbols.specs.TableLaws.{table_of}
+use Rattle.arena_symbols.specs.laws.TableLaws.{table_of}
 use Rattle.arena_symbols.specs.Tables.{pairs_of}
 use Rattle.arena_symbols.proofs.scopes.Scopes.new_in.Goals as goal
 

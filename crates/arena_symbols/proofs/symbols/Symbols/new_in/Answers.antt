@@ -6,7 +6,7 @@ use Rattle.arena_chunks.specs.declared.allocator.text.Str.{Str}
 use Rattle.arena_chunks.proofs.Layers.{apart_empty}
 use Rattle.arena_hash.specs.Finite.{Finite, value_of}
 use Rattle.arena_hash.specs.Maps.{pairs_in}
-use Rattle.arena_symbols.specs.NameLaws.{interner_of}
+use Rattle.arena_symbols.specs.laws.NameLaws.{interner_of}
 use Rattle.arena_symbols.specs.Names.{name_kind, contents_of}
 use Rattle.arena_symbols.proofs.NumberLemmas.{distinct_none}
 use Rattle.arena_symbols.proofs.symbols.Symbols.new_in.Goals as goal

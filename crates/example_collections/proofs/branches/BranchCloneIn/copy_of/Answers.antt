@@ -1,6 +1,6 @@
 use Rattle.std.proofs.lemmas.Result.{err_from_is_err_and}
 use Rattle.arena_clone.specs.Kinds.{vec_of}
-use Rattle.arena_clone.specs.KindLaws.{vec_lawful}
+use Rattle.arena_clone.specs.laws.KindLaws.{vec_lawful}
 use Rattle.example_collections.proofs.BranchLemmas.{name_refused, leaves_refused, branch_made, leaves_held, leaves_copied}
 use Rattle.example_collections.proofs.branches.BranchCloneIn.copy_of.Goals as goal
 

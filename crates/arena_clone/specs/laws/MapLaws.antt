@@ -9,7 +9,7 @@ use Rattle.arena_store.specs.declared.block.Block.{Block}
 use Rattle.arena_chunks.proofs.Layers.{no_bytes}
 use Rattle.arena_items.specs.Footprint.{AreReadable, Agree}
 use Rattle.arena_items.specs.Values.{bytes_of}
-use Rattle.arena_hash.specs.AgreeLaws.{meaning-agree, held-agree}
+use Rattle.arena_hash.specs.laws.AgreeLaws.{meaning-agree, held-agree}
 use Rattle.arena_hash.specs.Contents.{content_in}
 use Rattle.arena_hash.specs.Contents.{Kind as MapTypes}
 use Rattle.arena_hash.specs.Finite.{Finite}
@@ -18,7 +18,7 @@ use Rattle.arena_hash.specs.Slots.{items}
 use Rattle.arena_hash.specs.Tables.{slots_of}
 use Rattle.arena_hash.specs.declared.map.HashMap.{HashMap}
 use Rattle.arena_clone.specs.Kinds.{Kind, of_some, row_of}
-use Rattle.arena_clone.specs.KindLaws.{IsLawful, option_lawful, both_lawful, row_lawful, readable_each, agree_each}
+use Rattle.arena_clone.specs.laws.KindLaws.{IsLawful, option_lawful, both_lawful, row_lawful, readable_each, agree_each}
 use Rattle.arena_clone.specs.MapKind.{KeepsContent, pair_of, map_of, table_ask}
 
 pub pair_lawful : {K V : Type 0} (keys : Kind K) (values : Kind V) → IsLawful keys → IsLawful values → IsLawful (pair_of keys values)

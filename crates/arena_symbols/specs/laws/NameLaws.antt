@@ -5,9 +5,9 @@ use Rattle.arena_chunks.specs.Memory.{Memory}
 use Rattle.arena_store.specs.declared.block.Block.{Block}
 use Rattle.arena_chunks.specs.declared.allocator.text.Str.{Str}
 use Rattle.arena_items.specs.Footprint.{AreReadable, Agree}
-use Rattle.arena_items.specs.FootprintLaws.{held_again}
+use Rattle.arena_items.specs.laws.FootprintLaws.{held_again}
 use Rattle.arena_items.specs.Values.{elements}
-use Rattle.arena_hash.specs.AgreeLaws.{footprint-agree, meaning-agree, held-agree}
+use Rattle.arena_hash.specs.laws.AgreeLaws.{footprint-agree, meaning-agree, held-agree}
 use Rattle.arena_hash.specs.Finite.{Finite, value_of}
 use Rattle.arena_hash.specs.Maps.{texts_in as map_texts, footprint as map_footprint}
 use Rattle.arena_symbols.specs.Names.{name_kind, blocks_of, contents_of, texts_in, names_in, own_blocks, names_footprint, IsInternerOf, IsInternerIn}

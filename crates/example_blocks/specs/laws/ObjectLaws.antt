@@ -3,7 +3,7 @@ use Rattle.std.proofs.Common.{◌≡◌, ℕ, inl, inr}
 use Rattle.arena_chunks.specs.Memory.{Memory}
 use Rattle.arena_items.specs.declared.item.Item.{Ghosts}
 use Rattle.arena_items.specs.Footprint.{AreReadable, Agree}
-use Rattle.arena_items.specs.FootprintLaws.{held_readable, held_again}
+use Rattle.arena_items.specs.laws.FootprintLaws.{held_readable, held_again}
 use Rattle.arena_items.specs.Values.{elements}
 use Rattle.example_blocks.specs.declared.objects.Object.{Object}
 use Rattle.example_blocks.specs.declared.objects.Object.TheVariants.{Number, Titled}

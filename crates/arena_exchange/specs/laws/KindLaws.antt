@@ -5,7 +5,7 @@ use Rattle.std.proofs.lemmas.Bool.{and_parts, false≢true}
 use Rattle.arena_chunks.specs.Memory.{Memory, is_readable}
 use Rattle.arena_store.specs.declared.block.Block.{Block}
 use Rattle.arena_items.specs.Footprint.{AreReadable, Agree}
-use Rattle.arena_items.specs.FootprintLaws.{held_again}
+use Rattle.arena_items.specs.laws.FootprintLaws.{held_again}
 use Rattle.arena_items.specs.Values.{bytes_of, elements, box_value, IsSliceIn, slice_list}
 use Rattle.arena_items.specs.declared.item.Item.{Ghosts}
 use Rattle.arena_items.specs.declared.boxes.Box.{Box}
@@ -13,7 +13,7 @@ use Rattle.arena_vec.specs.Vecs.{IsVecIn, vec_list}
 use Rattle.arena_exchange.specs.Asks.{Ask, vector_ask}
 use Rattle.arena_exchange.specs.Asks.Ask.{Room}
 use Rattle.arena_exchange.specs.Copies.{IsFlat}
-use Rattle.arena_exchange.specs.FlatLaws.{plain_flat, option_flat, row_flat, both_flat}
+use Rattle.arena_exchange.specs.laws.FlatLaws.{plain_flat, option_flat, row_flat, both_flat}
 use Rattle.arena_exchange.specs.Kinds.{Kind, plain, text, option_of, both_of, row_of, row_in, box_of, slice_of, vec_of}
 use Rattle.arena_exchange.specs.declared.ids.CloneInSemanticIds.{CloneInSemanticIds}
 use Rattle.arena_exchange.specs.declared.ids.CloneInSemanticIds.TheVariants.{With}

@@ -4,12 +4,12 @@ use Rattle.arena_chunks.specs.Frame.{AreAllApart}
 use Rattle.arena_chunks.specs.Memory.{Memory}
 use Rattle.arena_store.specs.declared.block.Block.{Block}
 use Rattle.arena_items.specs.Footprint.{AreReadable, Agree}
-use Rattle.arena_items.specs.FootprintLaws.{held_again}
+use Rattle.arena_items.specs.laws.FootprintLaws.{held_again}
 use Rattle.arena_items.specs.Values.{elements}
 use Rattle.arena_items.specs.declared.item.Item.{Ghosts}
 use Rattle.arena_items.specs.declared.values.InArena.{Ghosts as Values}
 use Rattle.arena_vec.specs.Vecs.{vec_list}
-use Rattle.arena_symbols.specs.NameLaws.{names_readable, names_same_footprint, names_same, names_held_again}
+use Rattle.arena_symbols.specs.laws.NameLaws.{names_readable, names_same_footprint, names_same, names_held_again}
 use Rattle.arena_ast.specs.Asts.{AreOrdered, IsAstIn, ast_blocks}
 use Rattle.arena_ast.specs.Rows.{Rows, rows_in}
 use Rattle.arena_ast.specs.declared.ast.Ast.{Ast}

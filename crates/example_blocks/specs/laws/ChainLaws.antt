@@ -5,7 +5,7 @@ use Rattle.arena_chunks.specs.Memory.{Memory}
 use Rattle.arena_chunks.specs.Frame.{ArePairwiseApart}
 use Rattle.arena_items.specs.declared.item.Item.{Ghosts}
 use Rattle.arena_items.specs.Footprint.{AreReadable, Agree}
-use Rattle.arena_items.specs.FootprintLaws.{held_again}
+use Rattle.arena_items.specs.laws.FootprintLaws.{held_again}
 use Rattle.arena_items.specs.Values.{IsBoxIn, box_value}
 use Rattle.example_blocks.specs.declared.linked.Chain.{Chain}
 use Rattle.example_blocks.specs.Chains.{First, Second, IsChain, second, third, numbers, blocks}

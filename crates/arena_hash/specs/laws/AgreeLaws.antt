@@ -5,9 +5,9 @@ use Rattle.std.specs.List.{IsDistinct}
 use Rattle.arena_chunks.specs.Memory.{Memory}
 use Rattle.arena_chunks.specs.Frame.{AreAllApart}
 use Rattle.arena_items.specs.Footprint.{AreReadable, Agree}
-use Rattle.arena_items.specs.FootprintLaws.{held_again}
+use Rattle.arena_items.specs.laws.FootprintLaws.{held_again}
 use Rattle.arena_items.specs.Values.{bytes_of}
-pub use Rattle.hash_ring.specs.AgreeLaws.{has-items, away-agree, behind-agree, ordered-agree, contents-same, under-agree}
+pub use Rattle.hash_ring.specs.laws.AgreeLaws.{has-items, away-agree, behind-agree, ordered-agree, contents-same, under-agree}
 use Rattle.hash_ring.specs.Finite.{first_of, AreOnce}
 use Rattle.hash_ring.specs.Marks.{home_of, mark_of}
 use Rattle.hash_ring.specs.Slots.{items, Has}

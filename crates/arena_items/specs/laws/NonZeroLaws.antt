@@ -17,7 +17,7 @@ use Rattle.std.specs.declared.num.NonZeroIsize.{NonZeroIsize}
 use Rattle.std.proofs.Common.{ap, subst, arith}
 use Rattle.arena_items.specs.NumberForms.{signed_bytes, signed_of}
 use Rattle.arena_items.specs.NonZeroForms.{not_0_or}
-use Rattle.arena_items.specs.NumberLaws.{bytes_back, signed_back}
+use Rattle.arena_items.specs.laws.NumberLaws.{bytes_back, signed_back}
 
 -- a number above 0 is not replaced
 pub max_back : (n : ℕ) → 0 < n → max 1 n ≡ n

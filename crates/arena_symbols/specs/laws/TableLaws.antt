@@ -6,10 +6,10 @@ use Rattle.arena_chunks.specs.Memory.{Memory, image, bytes_from}
 use Rattle.arena_store.specs.declared.block.Block.{Block}
 use Rattle.arena_chunks.proofs.Layers.{no_bytes}
 use Rattle.arena_items.specs.Footprint.{AreReadable, Agree}
-use Rattle.arena_items.specs.FootprintLaws.{held_again}
+use Rattle.arena_items.specs.laws.FootprintLaws.{held_again}
 use Rattle.arena_items.specs.Values.{elements}
 use Rattle.arena_items.specs.declared.item.Item.{Ghosts}
-use Rattle.arena_hash.specs.AgreeLaws.{meaning-agree, held-agree}
+use Rattle.arena_hash.specs.laws.AgreeLaws.{meaning-agree, held-agree}
 use Rattle.arena_hash.specs.Finite.{Finite, value_of}
 use Rattle.arena_hash.specs.Maps.{pairs_in, footprint as map_footprint}
 use Rattle.arena_symbols.specs.Listing.{place_item}

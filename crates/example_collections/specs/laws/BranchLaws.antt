@@ -1,7 +1,7 @@
 -- The bytes of a branch's blocks determine what it means.
 use Rattle.arena_items.specs.declared.item.Item.{Ghosts}
 use Rattle.arena_clone.specs.Kinds.{Kind, text, semantic_id, vec_of}
-use Rattle.arena_clone.specs.KindLaws.{IsLawful, text_lawful, semantic_id_lawful, vec_lawful, both_lawful}
+use Rattle.arena_clone.specs.laws.KindLaws.{IsLawful, text_lawful, semantic_id_lawful, vec_lawful, both_lawful}
 use Rattle.example_collections.specs.Branches.{inside_of, branch_of}
 
 pub branch_lawful : {L : Type 0} (item : Ghosts L) (leaf : Kind L) → IsLawful leaf → IsLawful (branch_of (vec_of item leaf))

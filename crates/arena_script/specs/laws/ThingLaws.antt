@@ -4,10 +4,10 @@ use Rattle.std.specs.Int.{w32, w64, from_le_bytes}
 use Rattle.std.proofs.Common.{ap, ◌∙◌}
 use Rattle.arena_chunks.specs.Memory.{Memory}
 use Rattle.arena_items.specs.Footprint.{AreReadable, Agree}
-use Rattle.arena_items.specs.FootprintLaws.{held_readable, held_again}
+use Rattle.arena_items.specs.laws.FootprintLaws.{held_readable, held_again}
 use Rattle.arena_items.specs.Values.{elements}
 use Rattle.arena_bits.specs.Bits.{bits_of}
-use Rattle.arena_hash.specs.AgreeLaws.{footprint-agree, meaning-agree, held-agree}
+use Rattle.arena_hash.specs.laws.AgreeLaws.{footprint-agree, meaning-agree, held-agree}
 use Rattle.arena_hash.specs.Finite.{Finite}
 use Rattle.script_rules.specs.Objects.{bits_end, AList, AText, ASet, AMap, AValue}
 use Rattle.arena_script.specs.Kinds.{pairs}

@@ -5,7 +5,7 @@ use Rattle.arena_chunks.specs.Memory.{Memory}
 use Rattle.arena_items.specs.Footprint.{AreReadable, Agree}
 use Rattle.arena_clone.specs.Kinds.{Kind, AreAlike}
 use Rattle.arena_clone.specs.EitherKind.{sum_of, either_of}
-use Rattle.arena_clone.specs.KindLaws.{IsLawful}
+use Rattle.arena_clone.specs.laws.KindLaws.{IsLawful}
 use Rattle.arena_clone.specs.Copies.{IsFlat}
 use Rattle.arena_exchange.specs.declared.ids.CloneInSemanticIds.{CloneInSemanticIds}
 use Rattle.arena_exchange.specs.declared.ids.CloneInSemanticIds.TheVariants.{With}

@@ -1,0 +1,3 @@
+-- Facts that implementations of traits cite.
+pub mod FlatLaws
+pub mod KindLaws

@@ -1,0 +1,2 @@
+-- Facts that implementations of traits cite.
+pub mod AgreeLaws
