@@ -11,7 +11,7 @@ use Rattle.arena_hash.specs.declared.map.HashMap.{HashMap}
 use Rattle.arena_clone.specs.Alike.{AreOptionsAlike, AreListsAlike, AreMapsAlike}
 use Rattle.arena_clone.specs.Kinds.{Kind, AreAlike, of_some, option_of, row_of}
 use Rattle.arena_clone.specs.MapKind.{map_of}
-use Rattle.arena_exchange.specs.declared.ids.CloneInSemanticIds.{CloneInSemanticIds}
+use Rattle.arena_kinds.specs.declared.ids.CloneInSemanticIds.{CloneInSemanticIds}
 
 some_same : {A : Type 0} (x y : A) → Some x ≡ Some y → x ≡ y
 some_same x y same = cc

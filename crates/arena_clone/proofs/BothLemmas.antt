@@ -8,7 +8,7 @@ use Rattle.arena_clone.specs.Asks.{Ask}
 use Rattle.arena_clone.specs.Kinds.{Kind, both_of}
 use Rattle.arena_clone.specs.laws.KindLaws.{IsLawful}
 use Rattle.arena_clone.specs.Copies.{MakesNew}
-use Rattle.arena_exchange.proofs.Layers.{made_stays, made_readable, apart_of_none, places_then}
+use Rattle.arena_kinds.proofs.Layers.{made_stays, made_readable, apart_of_none, places_then}
 
 module _ {T A B : Type 0} (first : Kind A) (second : Kind B) (a : T → A) (b : T → B) (is : IsLawful first) {meaning : first.Whole}
     {meant : second.Whole} {xs ys : List Ask} {old mid new : View} {v : A} (makes : MakesNew first meaning xs old mid (Ok v)) where

@@ -18,8 +18,8 @@ use Rattle.arena_clone.specs.Asks.{AsksFor, refusal}
 use Rattle.arena_clone.specs.Kinds.{builder, text_ask}
 use Rattle.arena_clone.specs.Copies.{Copies}
 use Rattle.arena_clone.specs.Origins.{IsKept, IsOrigin}
-use Rattle.arena_exchange.specs.declared.ids.CloneInSemanticIds.{CloneInSemanticIds}
-use Rattle.arena_exchange.proofs.Layers.{block_of, asked_same}
+use Rattle.arena_kinds.specs.declared.ids.CloneInSemanticIds.{CloneInSemanticIds}
+use Rattle.arena_kinds.proofs.Layers.{block_of, asked_same}
 use Rattle.arena_clone.proofs.VectorLemmas.{made_asked}
 
 room_asked : {old mid : View} (t : StringBuilder) (result : Result StringBuilder AllocError) → Makes old mid t.len [] result

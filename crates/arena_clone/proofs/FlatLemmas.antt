@@ -13,7 +13,7 @@ use Rattle.arena_clone.specs.Kinds.{Kind, row_of}
 use Rattle.arena_clone.specs.Copies.{IsFlat, IsMade}
 use Rattle.arena_clone.specs.FlatLaws.{row_flat}
 use Rattle.arena_clone.specs.Rows.{CopiesRow}
-use Rattle.arena_exchange.specs.declared.ids.CloneInSemanticIds.{CloneInSemanticIds}
+use Rattle.arena_kinds.specs.declared.ids.CloneInSemanticIds.{CloneInSemanticIds}
 
 module _ {T : Type 0} (kind : Kind T) (ids : CloneInSemanticIds) (flat : IsFlat kind ids) where
   -- The same row of flat values elsewhere is a copy of the row.

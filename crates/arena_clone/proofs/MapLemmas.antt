@@ -22,8 +22,8 @@ use Rattle.arena_clone.specs.Kinds.{Kind, of_some, row_of}
 use Rattle.arena_clone.specs.MapKind.{pair_of, map_of, table_ask, IsTableFor}
 use Rattle.arena_clone.specs.MapCopies.{HoldsCopies, PutsCopies}
 use Rattle.arena_clone.specs.Copies.{Copies}
-use Rattle.arena_exchange.specs.declared.ids.CloneInSemanticIds.{CloneInSemanticIds}
-use Rattle.arena_exchange.proofs.Layers.{same_places, asked_then, block_of, took_asked, all_in_order, one_apart, places_refused}
+use Rattle.arena_kinds.specs.declared.ids.CloneInSemanticIds.{CloneInSemanticIds}
+use Rattle.arena_kinds.proofs.Layers.{same_places, asked_then, block_of, took_asked, all_in_order, one_apart, places_refused}
 use Rattle.arena_clone.proofs.FiniteLemmas.{pairs_turned}
 
 -- ---- The table

@@ -17,7 +17,7 @@ use Rattle.arena_clone.specs.laws.KindLaws.{IsLawful, all_each}
 use Rattle.arena_clone.specs.Copies.{Copies}
 use Rattle.arena_clone.specs.Origins.{IsOrigin, AreBeside}
 use Rattle.arena_clone.specs.Rows.{CopiesRow}
-use Rattle.arena_exchange.specs.declared.ids.CloneInSemanticIds.{CloneInSemanticIds}
+use Rattle.arena_kinds.specs.declared.ids.CloneInSemanticIds.{CloneInSemanticIds}
 use Rattle.arena_clone.proofs.RowLemmas.{all_at, first_more, first_refused, CopiesFirst}
 
 -- What holds of the elements of all members of a list holds of those of one,

@@ -7,8 +7,8 @@ use Rattle.arena_clone.specs.Kinds.{Kind}
 use Rattle.arena_clone.specs.laws.KindLaws.{IsLawful}
 use Rattle.arena_clone.specs.MapKind.{pair_of}
 use Rattle.arena_clone.specs.Copies.{Copies}
-use Rattle.arena_exchange.specs.declared.ids.CloneInSemanticIds.{CloneInSemanticIds}
-use Rattle.arena_exchange.proofs.Layers.{makes_refused}
+use Rattle.arena_kinds.specs.declared.ids.CloneInSemanticIds.{CloneInSemanticIds}
+use Rattle.arena_kinds.proofs.Layers.{makes_refused}
 use Rattle.arena_clone.proofs.BothLemmas.{makes_both}
 use Rattle.arena_clone.proofs.BothLemmas.{second_refused as both_refused}
 

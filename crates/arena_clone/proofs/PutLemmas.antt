@@ -31,8 +31,8 @@ use Rattle.arena_clone.specs.laws.MapLaws.{at_block, pair_lawful, text_agree, te
 use Rattle.arena_clone.specs.MapCopies.{HoldsCopies, PutsCopies}
 use Rattle.arena_clone.specs.Copies.{Copies}
 use Rattle.arena_clone.specs.Rows.{CopiesRow}
-use Rattle.arena_exchange.specs.declared.ids.CloneInSemanticIds.{CloneInSemanticIds}
-use Rattle.arena_exchange.proofs.Layers.{apart_front, apart_of_none, apart_to, apart_turned, deep_agree}
+use Rattle.arena_kinds.specs.declared.ids.CloneInSemanticIds.{CloneInSemanticIds}
+use Rattle.arena_kinds.proofs.Layers.{apart_front, apart_of_none, apart_to, apart_turned, deep_agree}
 use Rattle.arena_clone.proofs.RowLemmas.{take_more, cut_at, row_none, row_refused, row_added, made_between, apart_between}
 use Rattle.arena_clone.proofs.FiniteLemmas.{AreOthers, none_found, found_more, once_others}
 

@@ -17,7 +17,7 @@ use Rattle.arena_clone.specs.MapKind.{pair_of}
 use Rattle.arena_clone.specs.laws.MapLaws.{pair_lawful}
 use Rattle.arena_clone.specs.Copies.{Copies}
 use Rattle.arena_clone.specs.Origins.{IsKept, IsOrigin, AreBeside}
-use Rattle.arena_exchange.specs.declared.ids.CloneInSemanticIds.{CloneInSemanticIds}
+use Rattle.arena_kinds.specs.declared.ids.CloneInSemanticIds.{CloneInSemanticIds}
 use Rattle.arena_clone.proofs.OriginLemmas.{all_of_all, value_held, value_copied}
 use Rattle.arena_clone.proofs.PutLemmas.{PutsFirst, at_slot}
 

@@ -21,8 +21,8 @@ use Rattle.arena_clone.specs.Kinds.{Kind, row_of}
 use Rattle.arena_clone.specs.laws.KindLaws.{IsLawful, row_lawful}
 use Rattle.arena_clone.specs.Copies.{IsMade, Copies}
 use Rattle.arena_clone.specs.Rows.{CopiesRow}
-use Rattle.arena_exchange.specs.declared.ids.CloneInSemanticIds.{CloneInSemanticIds}
-use Rattle.arena_exchange.proofs.Layers.{same_places, asked_then, asked_refused, asked_same, apart_of_none, made_readable, made_stays}
+use Rattle.arena_kinds.specs.declared.ids.CloneInSemanticIds.{CloneInSemanticIds}
+use Rattle.arena_kinds.proofs.Layers.{same_places, asked_then, asked_refused, asked_same, apart_of_none, made_readable, made_stays}
 
 -- ---- Lists
 

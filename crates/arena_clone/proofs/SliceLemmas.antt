@@ -14,8 +14,8 @@ use Rattle.arena_clone.specs.Asks.Ask.{Room}
 use Rattle.arena_clone.specs.Kinds.{Kind, slice_of}
 use Rattle.arena_clone.specs.Copies.{Copies}
 use Rattle.arena_clone.specs.Rows.{CopiesRow}
-use Rattle.arena_exchange.specs.declared.ids.CloneInSemanticIds.{CloneInSemanticIds}
-use Rattle.arena_exchange.proofs.Layers.{places_one}
+use Rattle.arena_kinds.specs.declared.ids.CloneInSemanticIds.{CloneInSemanticIds}
+use Rattle.arena_kinds.proofs.Layers.{places_one}
 use Rattle.arena_clone.proofs.ThroughLemmas.{own_refused, value_refused, values_made}
 
 module _ {T : Type 0} (item : Ghosts T) (kind : Kind T) (ids : CloneInSemanticIds) (source : Memory) {old : View} (s : BoxSlice T) where

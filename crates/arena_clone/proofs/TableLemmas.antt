@@ -29,8 +29,8 @@ use Rattle.arena_clone.specs.Kinds.{Kind, of_some, row_of}
 use Rattle.arena_clone.specs.MapKind.{KeepsContent, pair_of, map_of, table_ask, IsTableFor}
 use Rattle.arena_clone.specs.Copies.{IsFlat, IsMade, Copies}
 use Rattle.arena_clone.specs.FlatLaws.{row_flat, both_flat}
-use Rattle.arena_exchange.specs.declared.ids.CloneInSemanticIds.{CloneInSemanticIds}
-use Rattle.arena_exchange.proofs.Layers.{block_of, places_one}
+use Rattle.arena_kinds.specs.declared.ids.CloneInSemanticIds.{CloneInSemanticIds}
+use Rattle.arena_kinds.proofs.Layers.{block_of, places_one}
 use Rattle.arena_clone.proofs.FlatLemmas.{row_made}
 
 -- ---- The block of a table

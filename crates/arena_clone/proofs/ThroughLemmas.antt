@@ -17,8 +17,8 @@ use Rattle.arena_clone.specs.laws.KindLaws.{IsLawful, row_lawful}
 use Rattle.arena_clone.specs.Copies.{Copies}
 use Rattle.arena_clone.specs.Origins.{IsKept, IsOrigin, AreBeside}
 use Rattle.arena_clone.specs.Rows.{CopiesRow}
-use Rattle.arena_exchange.specs.declared.ids.CloneInSemanticIds.{CloneInSemanticIds}
-use Rattle.arena_exchange.proofs.Layers.{asked_then, places_refused}
+use Rattle.arena_kinds.specs.declared.ids.CloneInSemanticIds.{CloneInSemanticIds}
+use Rattle.arena_kinds.proofs.Layers.{asked_then, places_refused}
 use Rattle.arena_clone.proofs.OriginLemmas.{placed_held, placed_beside, placed_agrees}
 
 module _ {V T : Type 0} (item : Ghosts T) (kind : Kind T) (block : V → Block) (is_in : Memory → V → Type 0)

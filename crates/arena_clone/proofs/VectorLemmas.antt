@@ -23,8 +23,8 @@ use Rattle.arena_clone.specs.Asks.{AsksFor, PlacesAll, refusal, ask_by, vector_a
 use Rattle.arena_clone.specs.Kinds.{Kind, vec_of}
 use Rattle.arena_clone.specs.Copies.{Copies}
 use Rattle.arena_clone.specs.Rows.{CopiesRow}
-use Rattle.arena_exchange.specs.declared.ids.CloneInSemanticIds.{CloneInSemanticIds}
-use Rattle.arena_exchange.proofs.Layers.{same_places, block_of, took_asked}
+use Rattle.arena_kinds.specs.declared.ids.CloneInSemanticIds.{CloneInSemanticIds}
+use Rattle.arena_kinds.proofs.Layers.{same_places, block_of, took_asked}
 use Rattle.arena_clone.proofs.ThroughLemmas.{own_refused, value_refused, values_made}
 
 -- ---- Growth without a block

@@ -6,7 +6,7 @@ use Rattle.arena_hash.specs.Finite.{value_of}
 use Rattle.arena_hash.specs.Maps.{map_in}
 use Rattle.arena_hash.specs.declared.map.HashMap.{HashMap}
 use Rattle.arena_clone.specs.Kinds.{Kind, AreAlike}
-use Rattle.arena_exchange.specs.declared.ids.CloneInSemanticIds.{CloneInSemanticIds}
+use Rattle.arena_kinds.specs.declared.ids.CloneInSemanticIds.{CloneInSemanticIds}
 
 -- both are `None`, or their values are alike
 abbrev pub AreOptionsAlike : {T : Type 0} → Kind T → CloneInSemanticIds → Memory → Option T → Memory → Option T → Type 0

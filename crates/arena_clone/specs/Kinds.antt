@@ -6,11 +6,11 @@ use Rattle.arena_text.specs.declared.text.StringBuilder.{StringBuilder}
 use Rattle.arena_bits.specs.Bits.{Set, words_for}
 use Rattle.arena_bits.specs.Sets.{IsSetIn, set_of}
 use Rattle.arena_bits.specs.declared.set.BitSet.{BitSet}
-use Rattle.arena_exchange.specs.Asks.{Ask, ask_by}
-use Rattle.arena_exchange.specs.Asks.Ask.{Room}
-pub use Rattle.arena_exchange.specs.Kinds.{Kind, AreAlike, plain, text, of_some, all_of, option_of, row_of, both_of, row_in, box_of, slice_of, vec_of}
-use Rattle.arena_exchange.specs.declared.ids.CloneInSemanticIds.{CloneInSemanticIds}
-use Rattle.arena_exchange.specs.declared.ids.CloneInSemanticIds.TheVariants.{With, Without}
+use Rattle.arena_kinds.specs.Asks.{Ask, ask_by}
+use Rattle.arena_kinds.specs.Asks.Ask.{Room}
+pub use Rattle.arena_kinds.specs.Kinds.{Kind, AreAlike, plain, text, of_some, all_of, option_of, row_of, both_of, row_in, box_of, slice_of, vec_of}
+use Rattle.arena_kinds.specs.declared.ids.CloneInSemanticIds.{CloneInSemanticIds}
+use Rattle.arena_kinds.specs.declared.ids.CloneInSemanticIds.TheVariants.{With, Without}
 use Rattle.arena_clone.specs.declared.semantic_id.SemanticId.{SemanticId}
 
 -- an id is kept, or becomes 0

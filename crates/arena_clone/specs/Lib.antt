@@ -1,7 +1,7 @@
-pub use Rattle.arena_exchange.specs.Asks
-pub use Rattle.arena_exchange.specs.Copies
-pub use Rattle.arena_exchange.specs.laws.FlatLaws
-pub use Rattle.arena_exchange.specs.Dummies
+pub use Rattle.arena_kinds.specs.Asks
+pub use Rattle.arena_kinds.specs.Copies
+pub use Rattle.arena_kinds.specs.laws.FlatLaws
+pub use Rattle.arena_kinds.specs.Dummies
 pub mod AskBytes
 pub mod Kinds
 pub mod EitherKind

@@ -12,7 +12,7 @@ use Rattle.arena_items.specs.declared.room.AllocError.{AllocError}
 use Rattle.arena_clone.specs.Kinds.{Kind}
 use Rattle.arena_clone.specs.MapKind.{pair_of}
 use Rattle.arena_clone.specs.Rows.{CopiesRow}
-use Rattle.arena_exchange.specs.declared.ids.CloneInSemanticIds.{CloneInSemanticIds}
+use Rattle.arena_kinds.specs.declared.ids.CloneInSemanticIds.{CloneInSemanticIds}
 
 -- The map of copies of these pairs, in the table of a map that was empty.
 pub record HoldsCopies {K V S : Type 0} (k : MapTypes K V S) (source new : Memory) (m : HashMap K V S) (xs ys : List (K × V))

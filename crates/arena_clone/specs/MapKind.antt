@@ -10,7 +10,7 @@ use Rattle.arena_hash.specs.declared.map.HashMap.{HashMap}
 use Rattle.arena_clone.specs.Asks.{Ask}
 use Rattle.arena_clone.specs.Asks.Ask.{Table, NoBytes}
 use Rattle.arena_clone.specs.Kinds.{Kind, AreAlike, of_some, both_of, row_of}
-use Rattle.arena_exchange.specs.declared.ids.CloneInSemanticIds.{CloneInSemanticIds}
+use Rattle.arena_kinds.specs.declared.ids.CloneInSemanticIds.{CloneInSemanticIds}
 
 -- What a key's content depends on: the block of its text, which is empty or one that the key names. A copy of a key has
 -- the same content.

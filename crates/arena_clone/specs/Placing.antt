@@ -8,7 +8,7 @@ use Rattle.arena_items.specs.declared.boxes.Box.{Box}
 use Rattle.arena_items.specs.declared.room.AllocError.{AllocError}
 use Rattle.arena_items.specs.Room.{RoomAnswer}
 use Rattle.arena_items.specs.Values.{IsTextIn, text_bytes}
-pub use Rattle.arena_exchange.specs.Dummies.{Boxes}
+pub use Rattle.arena_kinds.specs.Dummies.{Boxes}
 
 -- the same result for a function of the value
 abbrev pub answer_of : {A B : Type 0} → (A → B) → Result A AllocError → Result B AllocError

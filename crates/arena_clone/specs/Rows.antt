@@ -8,7 +8,7 @@ use Rattle.arena_items.specs.declared.room.AllocError.{AllocError}
 use Rattle.arena_clone.specs.Asks.{AsksFor, refusal}
 use Rattle.arena_clone.specs.Kinds.{Kind, row_of}
 use Rattle.arena_clone.specs.Copies.{IsMade}
-use Rattle.arena_exchange.specs.declared.ids.CloneInSemanticIds.{CloneInSemanticIds}
+use Rattle.arena_kinds.specs.declared.ids.CloneInSemanticIds.{CloneInSemanticIds}
 
 -- A call that copies these values into a block, which holds `ys` then, asks the arena for exactly the blocks that the
 -- copies name.

@@ -5,8 +5,8 @@ ghost use Rattle.arena_clone.specs.laws.KindLaws.{box_lawful};
 use crate::clone_in::CloneIn;
 use crate::origin::Origin;
 use arena_chunks::{Allocator, ChunkSource};
-use arena_exchange::{CloneInSemanticIds, place_box};
 use arena_items::{Box, Grown, Item};
+use arena_kinds::{CloneInSemanticIds, place_box};
 
 impl<T: CloneIn + Item> CloneIn for Box<T> {
     ghost kind = { box_of T.Item T.kind };

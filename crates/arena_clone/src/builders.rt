@@ -5,8 +5,8 @@ ghost use Rattle.arena_clone.specs.laws.KindLaws.{builder_lawful};
 use crate::clone_in::CloneIn;
 use crate::origin::Origin;
 use arena_chunks::{Allocator, ChunkSource};
-use arena_exchange::CloneInSemanticIds;
 use arena_items::Grown;
+use arena_kinds::CloneInSemanticIds;
 use arena_text::StringBuilder;
 
 impl CloneIn for StringBuilder {

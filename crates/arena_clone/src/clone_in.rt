@@ -6,8 +6,8 @@ ghost use Rattle.arena_clone.specs.Copies.{Copies};
 
 use crate::origin::{Here, Origin};
 use arena_chunks::{Allocator, ChunkSource};
-use arena_exchange::CloneInSemanticIds;
 use arena_items::Grown;
+use arena_kinds::CloneInSemanticIds;
 
 /// A value that can be copied at every depth, into another arena or within its own. The copy has only blocks of its
 /// own, and from then on source and copy are independent.

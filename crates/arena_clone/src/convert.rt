@@ -7,8 +7,8 @@ ghost use Rattle.arena_clone.specs.Placing.{Boxes, MayBox, PlacesText};
 
 use crate::blocks::place;
 use arena_chunks::{Allocator, ChunkSource, Str};
-use arena_exchange::place_box;
 use arena_items::{Box, Grown, Item};
+use arena_kinds::place_box;
 use arena_vec::Vec;
 
 /// A type that is made from another in an arena.

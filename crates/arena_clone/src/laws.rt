@@ -21,8 +21,8 @@ ghost use Rattle.arena_items.specs.Values.{box_value, slice_list};
 ghost use Rattle.arena_items.specs.declared.room.AllocError.{AllocError};
 ghost use Rattle.arena_items.specs.declared.boxes.Box.{Box};
 ghost use Rattle.arena_items.specs.declared.slices.BoxSlice.{BoxSlice};
-ghost use Rattle.arena_exchange.specs.declared.ids.CloneInSemanticIds.{CloneInSemanticIds};
-ghost use Rattle.arena_exchange.specs.declared.ids.CloneInSemanticIds.TheVariants.{With};
+ghost use Rattle.arena_kinds.specs.declared.ids.CloneInSemanticIds.{CloneInSemanticIds};
+ghost use Rattle.arena_kinds.specs.declared.ids.CloneInSemanticIds.TheVariants.{With};
 
 use crate::clone_in::CloneIn;
 use crate::keys::CloneKey;

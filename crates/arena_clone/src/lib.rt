@@ -20,8 +20,8 @@ mod tables;
 mod texts;
 mod vectors;
 
-pub use arena_exchange::{CloneInSemanticIds, Dummy, ReplaceWith, TakeIn};
 pub use arena_items::{AllocError, Grown};
+pub use arena_kinds::{CloneInSemanticIds, Dummy, ReplaceWith, TakeIn};
 pub use clone_in::CloneIn;
 pub use convert::{FromIn, IntoIn};
 pub use keys::CloneKey;

@@ -14,9 +14,9 @@ use crate::keys::CloneKey;
 use crate::origin::Origin;
 use crate::tables::{copy_table, is_copied_whole};
 use arena_chunks::{Allocator, ChunkSource};
-use arena_exchange::CloneInSemanticIds;
 use arena_hash::{HashMap, KeyHasher};
 use arena_items::{Grown, Item};
+use arena_kinds::CloneInSemanticIds;
 
 // Copies a pair: first its key, and then its value.
 fn clone_pair<K: CloneIn + Item, V: CloneIn + Item, O: Origin<D>, D: ChunkSource>(

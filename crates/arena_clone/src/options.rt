@@ -5,8 +5,8 @@ ghost use Rattle.arena_clone.specs.laws.KindLaws.{option_lawful};
 use crate::clone_in::CloneIn;
 use crate::origin::Origin;
 use arena_chunks::{Allocator, ChunkSource};
-use arena_exchange::CloneInSemanticIds;
 use arena_items::Grown;
+use arena_kinds::CloneInSemanticIds;
 
 impl<T: CloneIn> CloneIn for Option<T> {
     ghost kind = { option_of T.kind };

@@ -6,8 +6,8 @@ ghost use Rattle.arena_clone.specs.laws.KindLaws.{plain_lawful};
 use crate::clone_in::CloneIn;
 use crate::origin::Origin;
 use arena_chunks::{Allocator, ChunkSource};
-use arena_exchange::CloneInSemanticIds;
 use arena_items::Grown;
+use arena_kinds::CloneInSemanticIds;
 use std::num::{
     NonZeroI8, NonZeroI16, NonZeroI32, NonZeroI64, NonZeroI128, NonZeroIsize, NonZeroU8,
     NonZeroU16, NonZeroU32, NonZeroU64, NonZeroU128, NonZeroUsize,

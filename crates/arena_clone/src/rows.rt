@@ -9,8 +9,8 @@ ghost use Rattle.arena_clone.specs.Rows.{CopiesRow};
 use crate::clone_in::CloneIn;
 use crate::origin::Origin;
 use arena_chunks::{Allocator, Block, ChunkSource};
-use arena_exchange::CloneInSemanticIds;
 use arena_items::{Grown, Item, item_at, put_item};
+use arena_kinds::CloneInSemanticIds;
 
 // A row of values in its block, and the block for their copies.
 #[derive(Clone, Copy)]

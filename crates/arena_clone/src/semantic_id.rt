@@ -9,8 +9,8 @@ ghost use Rattle.arena_clone.specs.laws.KindLaws.{semantic_id_lawful};
 use crate::clone_in::CloneIn;
 use crate::origin::Origin;
 use arena_chunks::{Allocator, ChunkSource};
-use arena_exchange::CloneInSemanticIds;
 use arena_items::{Grown, Item};
+use arena_kinds::CloneInSemanticIds;
 
 /// A number by which an analysis identifies a node of a tree. A copy keeps it only if asked to.
 #[derive(Clone, Copy, PartialEq, Eq, Debug)]

@@ -7,8 +7,8 @@ use crate::clone_in::CloneIn;
 use crate::origin::Origin;
 use arena_bits::BitSet;
 use arena_chunks::{Allocator, ChunkSource};
-use arena_exchange::CloneInSemanticIds;
 use arena_items::{BoxSlice, Grown};
+use arena_kinds::CloneInSemanticIds;
 
 impl CloneIn for BitSet {
     ghost kind = { bit_set };

@@ -7,8 +7,8 @@ use crate::clone_in::CloneIn;
 use crate::origin::Origin;
 use crate::rows::{Row, copy_row};
 use arena_chunks::{Allocator, ChunkSource};
-use arena_exchange::CloneInSemanticIds;
 use arena_items::{BoxSlice, Grown, Item};
+use arena_kinds::CloneInSemanticIds;
 use std::marker::PhantomData;
 
 impl<T: CloneIn + Item> CloneIn for BoxSlice<T> {

@@ -4,16 +4,16 @@ ghost use Rattle.std.specs.Prelude.{◌*◌, ◌<◌, IsTrue};
 ghost use Rattle.arena_hash.specs.Contents.{kind, IsFixed};
 ghost use Rattle.arena_clone.specs.Copies.{Copies};
 ghost use Rattle.arena_clone.specs.MapKind.{map_of};
-ghost use Rattle.arena_exchange.specs.declared.ids.CloneInSemanticIds.{CloneInSemanticIds};
+ghost use Rattle.arena_kinds.specs.declared.ids.CloneInSemanticIds.{CloneInSemanticIds};
 
 use crate::blocks::place_copy;
 use crate::clone_in::CloneIn;
 use crate::keys::CloneKey;
 use crate::origin::Origin;
 use arena_chunks::{Allocator, ChunkSource};
-use arena_exchange::CloneInSemanticIds;
 use arena_hash::{HashMap, KeyHasher, Table};
 use arena_items::{Grown, Item};
+use arena_kinds::CloneInSemanticIds;
 
 // Returns whether the bytes of a map's table are the table of a copy: keys and values name no block, a new hasher
 // hashes each content alike, and more than a quarter of the slots are taken, so that a new table for as many pairs has

@@ -6,8 +6,8 @@ use crate::blocks::place_copy;
 use crate::clone_in::CloneIn;
 use crate::origin::Origin;
 use arena_chunks::{Allocator, ChunkSource, Str};
-use arena_exchange::CloneInSemanticIds;
 use arena_items::Grown;
+use arena_kinds::CloneInSemanticIds;
 
 impl CloneIn for Str {
     ghost kind = { text };

@@ -6,8 +6,8 @@ use crate::clone_in::CloneIn;
 use crate::origin::Origin;
 use crate::rows::{Row, copy_row};
 use arena_chunks::{Allocator, ChunkSource};
-use arena_exchange::CloneInSemanticIds;
 use arena_items::{Grown, Item};
+use arena_kinds::CloneInSemanticIds;
 use arena_vec::Vec;
 
 impl<T: CloneIn + Item> CloneIn for Vec<T> {

@@ -1,7 +1,8 @@
 -- What it costs to take room for a collection.
 use Rattle.std.specs.Prelude.{◌≡◌, ℕ, ◌+◌, ◌-◌, ◌^◌, ◌≤◌, true, false, Result, Err, OnOk, OnErr, IsTrue}
 use Rattle.arena_rules.specs.Rounding.{is_layout}
-use Rattle.arena_rules.specs.State.{used_bytes}
+use Rattle.arena_rules.specs.State.{used_bytes, allocated_bytes}
+use Rattle.arena_chunks.specs.Memory.{Memory}
 use Rattle.arena_chunks.specs.Source.{View}
 use Rattle.arena_chunks.specs.Asking.{AsksWithin, IsStarved, IsFull}
 use Rattle.arena_store.specs.declared.block.Block.{Block}
@@ -19,6 +20,11 @@ pub record Brings (old new : View) (size align : ℕ) (block : Block) : Type 0 w
   pub most : used new ≤ used old + size + (align - 1)
 
 -- ---- Calls that may take this many bytes
+
+-- An arena that grows still does, and one that doesn't keeps its number of bytes.
+pub record KeepsKind (old new : Memory) : Type 0 where
+  pub is_growing : new.state.is_growing ≡ old.state.is_growing
+  pub allocated : old.state.is_growing ≡ false → allocated_bytes new.state ≡ allocated_bytes old.state
 
 -- A call that brings at most `bytes` into use, less what the credit rises or plus what it falls. It asks for no more
 -- than that takes. In an arena that grows it is refused only if it is starved, and in a fixed one only if the arena has

@@ -4,7 +4,7 @@ use Rattle.std.specs.List.{AllZip}
 use Rattle.arena_chunks.specs.Source.{Source, View}
 use Rattle.arena_pool.specs.Kinds.{IsOfKind}
 use Rattle.arena_pool.specs.declared.kind.PoolKind.{PoolKind}
-use Rattle.arena_tree.specs.Spending.{KeepsKind}
+use Rattle.arena_items.specs.Costs.{KeepsKind}
 use Rattle.arena_workers.specs.Working.{IsServed}
 use Rattle.arena_workers.specs.declared.served.Served.{Served}
 use Rattle.arena_workers.proofs.KindLemmas.{kind_kept as still_of_kind}

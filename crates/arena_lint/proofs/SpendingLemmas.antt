@@ -9,12 +9,12 @@ use Rattle.arena_chunks.specs.Source.{View}
 use Rattle.arena_chunks.specs.Frame.{Frame}
 use Rattle.arena_store.specs.declared.block.Block.{Block}
 use Rattle.arena_chunks.proofs.Layers.{asks_same}
-use Rattle.arena_items.specs.Costs.{Costs, used}
+use Rattle.arena_items.specs.Costs.{Costs, used, KeepsKind}
 use Rattle.arena_items.specs.declared.room.AllocError.{AllocError}
 use Rattle.arena_items.specs.declared.room.AllocError.TheVariants.{CapacityOverflow}
 use Rattle.arena_symbols.specs.Paying.{far_up}
 use Rattle.arena_symbols.specs.declared.names.Names.{Names as Known}
-use Rattle.arena_tree.specs.Spending.{KeepsKind, error_of}
+use Rattle.arena_tree.specs.Spending.{error_of}
 use Rattle.arena_lint.specs.Spending.{Spends, Takes, IsExhausted}
 
 pub frame_kind : {old new : Memory} {before after : List Block} → Frame old new before after → KeepsKind old new

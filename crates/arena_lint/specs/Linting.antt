@@ -2,7 +2,7 @@
 use Rattle.std.specs.Prelude.{◌≡◌, ℕ, ◌+◌, ◌*◌, ◌≤◌, ◌⊎◌, Bool, true, false, List, length, IfNone, Ok}
 use Rattle.arena_chunks.specs.Source.{View}
 use Rattle.arena_chunks.specs.Asking.{AsksWithin, IsFull}
-use Rattle.arena_items.specs.Costs.{used}
+use Rattle.arena_items.specs.Costs.{used, KeepsKind}
 use Rattle.arena_chunks.specs.Answers.Answer.{Refused as NotPlaced}
 use Rattle.arena_items.specs.Denied.{IsDenied}
 use Rattle.arena_rules.specs.Asking.{IsStarvedWithin}
@@ -11,7 +11,6 @@ use Rattle.arena_symbols.specs.declared.names.Names.{Names as Known}
 use Rattle.arena_tree.specs.Asking.{ProgramRan}
 use Rattle.arena_tree.specs.Layouts.{AskedFor}
 use Rattle.arena_tree.specs.Parsing.{IsProgramText, parse_bytes}
-use Rattle.arena_tree.specs.Spending.{KeepsKind}
 use Rattle.arena_tree.specs.declared.tree.TreeErr.{TreeErr}
 use Rattle.arena_tree.specs.declared.tree.TreeErr.TheVariants as tree
 use Rattle.tree_rules.specs.Refusals.{TreeOf}

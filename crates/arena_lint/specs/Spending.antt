@@ -3,7 +3,7 @@ use Rattle.std.specs.Prelude.{◌≡◌, ◌≢◌, ℕ, ◌+◌, ◌*◌, ◌�
 use Rattle.arena_chunks.specs.Memory.{Memory}
 use Rattle.arena_chunks.specs.Source.{View}
 use Rattle.arena_chunks.specs.Asking.{AsksWithin, IsFull}
-use Rattle.arena_items.specs.Costs.{used}
+use Rattle.arena_items.specs.Costs.{used, KeepsKind}
 use Rattle.arena_items.specs.declared.room.AllocError.{AllocError}
 use Rattle.arena_items.specs.declared.room.AllocError.TheVariants.{AllocErr, CapacityOverflow, OutOfMemory}
 use Rattle.arena_symbols.specs.Interner.{most_texts}
@@ -11,7 +11,7 @@ use Rattle.arena_symbols.specs.Names.{names_in}
 use Rattle.arena_symbols.specs.Scoping.{pair_count}
 use Rattle.arena_symbols.specs.Tables.{entry_item, scopes_in}
 use Rattle.arena_symbols.specs.declared.names.Names.{Names as Known}
-use Rattle.arena_tree.specs.Spending.{KeepsKind, IsStarvedBehind}
+use Rattle.arena_tree.specs.Spending.{IsStarvedBehind}
 use Rattle.arena_symbols.specs.Named.{all_credit}
 
 -- the most bytes of the arena that a walk over statements of this weight takes

@@ -20,7 +20,7 @@ use Rattle.arena_clone.specs.Copies.{Copies}
 use Rattle.arena_clone.specs.FlatLaws.{none_in_all}
 use Rattle.arena_clone.specs.Kinds.{Kind, plain, row_of, of_some}
 use Rattle.arena_clone.specs.MapKind.{map_of, pair_of, table_ask}
-use Rattle.arena_exchange.specs.declared.ids.CloneInSemanticIds.TheVariants.{With}
+use Rattle.arena_kinds.specs.declared.ids.CloneInSemanticIds.TheVariants.{With}
 use Rattle.script_rules.specs.Objects.{get, AMap}
 use Rattle.script_rules.specs.declared.commands.Command.TheVariants.{CopyTo}
 use Rattle.script_rules.specs.declared.commands.ScriptReply.TheVariants.{Done}

@@ -2,7 +2,7 @@
 use Rattle.std.proofs.lemmas.Bool.Decides.{nat_tests}
 use Rattle.std.proofs.Common.{◌≡◌, ℕ, ◌+◌, ◌^◌, refl, sym, ap, ◌∙◌, subst, arith, Ok, Err, Option, List, [], ◌∷◌, ◌++◌, take}
 use Rattle.arena_chunks.specs.Source.{View}
-use Rattle.arena_items.specs.Costs.{Costs}
+use Rattle.arena_items.specs.Costs.{Costs, KeepsKind}
 use Rattle.arena_items.specs.declared.room.AllocError.{AllocError}
 use Rattle.arena_items.proofs.Layers.{still, costs_ok, costs_then}
 use Rattle.std.proofs.Math.Path.{fun_ext}
@@ -18,7 +18,7 @@ use Rattle.arena_script.specs.Asks.{Blocks, asks}
 use Rattle.arena_script.specs.Places.{Places, AreServed, block_at, no_blocks}
 use Rattle.arena_script.proofs.ThingLemmas.{get_mapped}
 use Rattle.arena_script.specs.Acts.{used, far, CostsGiven}
-use Rattle.arena_script.specs.Serves.{Serves, Stops, IsAfter, KeepsKind, credits_of}
+use Rattle.arena_script.specs.Serves.{Serves, Stops, IsAfter, credits_of}
 use Rattle.arena_script.proofs.CostFacts.{nothing_given}
 
 -- ---- One more command

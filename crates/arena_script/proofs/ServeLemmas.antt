@@ -29,7 +29,8 @@ use Rattle.arena_chunks.specs.Answers.Answer.{Placed}
 use Rattle.arena_store.specs.declared.block.Block.{Block}
 use Rattle.std.proofs.Math.Path.{fun_ext}
 use Rattle.arena_script.specs.Acts.{far, GivesThing, GivesNothing, HasNoPlace, Acts, CostsGiven, CostsRefused}
-use Rattle.arena_script.specs.Serves.{Serves, Stops, ServesOrStops, Settles, credits_of, KeepsKind}
+use Rattle.arena_items.specs.Costs.{KeepsKind}
+use Rattle.arena_script.specs.Serves.{Serves, Stops, ServesOrStops, Settles, credits_of}
 use Rattle.arena_script.specs.declared.act.Act.{Act}
 use Rattle.arena_script.specs.declared.act.Act.TheVariants.{Tells, Gives, LetsGo}
 use Rattle.arena_script.specs.declared.thing.Thing.{Thing}

@@ -14,7 +14,7 @@ use Rattle.arena_text.specs.Builders.{builder_bytes}
 use Rattle.arena_text.specs.declared.text.StringBuilder.{StringBuilder}
 use Rattle.arena_clone.specs.Copies.{Copies}
 use Rattle.arena_clone.specs.Kinds.{text}
-use Rattle.arena_exchange.specs.declared.ids.CloneInSemanticIds.TheVariants.{With}
+use Rattle.arena_kinds.specs.declared.ids.CloneInSemanticIds.TheVariants.{With}
 use Rattle.script_rules.specs.Objects.{get, AText}
 use Rattle.script_rules.specs.declared.commands.Command.TheVariants.{CopyTo}
 use Rattle.script_rules.specs.declared.commands.ScriptReply.TheVariants.{Done}

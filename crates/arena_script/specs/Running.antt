@@ -16,7 +16,8 @@ use Rattle.arena_script.specs.Things.{Things, AreThings, objects_in}
 use Rattle.arena_script.specs.Asks.{Blocks, asks}
 use Rattle.arena_script.specs.Places.{DeniedBlock, RunsOut, block_at}
 use Rattle.arena_script.specs.Acts.{used, HasNoPlace}
-use Rattle.arena_script.specs.Serves.{KeepsKind, IsAfter}
+use Rattle.arena_items.specs.Costs.{KeepsKind}
+use Rattle.arena_script.specs.Serves.{IsAfter}
 use Rattle.arena_script.specs.Wants.{takes_memory}
 
 -- The arena has things, one for each name, that share no memory and represent these objects.

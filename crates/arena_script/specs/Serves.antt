@@ -1,8 +1,8 @@
 -- What serving commands leaves: things that represent the plain machine's objects, and bytes within their cost.
-use Rattle.std.specs.Prelude.{◌≡◌, ◌≢◌, ℕ, ◌+◌, ◌≤◌, false, Result, Ok, Err, None, IsTrue, List, [], take}
-use Rattle.arena_rules.specs.State.{allocated_bytes}
+use Rattle.std.specs.Prelude.{◌≡◌, ◌≢◌, ℕ, ◌+◌, ◌≤◌, Result, Ok, Err, None, IsTrue, List, [], take}
 use Rattle.arena_chunks.specs.Memory.{Memory}
 use Rattle.arena_chunks.specs.Source.{View}
+use Rattle.arena_items.specs.Costs.{KeepsKind}
 use Rattle.arena_items.specs.declared.room.AllocError.{AllocError}
 use Rattle.arena_items.specs.declared.room.AllocError.TheVariants.{AllocErr, CapacityOverflow, OutOfMemory}
 use Rattle.script_rules.specs.Objects.{get, total, bind, unbind}
@@ -26,11 +26,6 @@ sizes_of things = total (λ (e : ℕ × Thing). size_of e.1) things
 
 abbrev pub credits_of : Things → ℕ
 credits_of things = total (λ (e : ℕ × Thing). credit_of e.1) things
-
--- An arena that grows still does, and one that doesn't keeps its number of bytes.
-pub record KeepsKind (old new : Memory) : Type 0 where
-  pub is_growing : new.state.is_growing ≡ old.state.is_growing
-  pub allocated : old.state.is_growing ≡ false → allocated_bytes new.state ≡ allocated_bytes old.state
 
 -- A command was served as by the plain machine, and took the block that it asks for. At least the bytes of its block came
 -- into use, and with all credits they are at most the credits before and its cost.

@@ -5,7 +5,7 @@ use Rattle.arena_chunks.specs.Memory.{Memory}
 use Rattle.arena_chunks.specs.Frame.{AreAllApart, ArePairwiseApart}
 use Rattle.arena_store.specs.declared.block.Block.{Block}
 use Rattle.arena_chunks.proofs.Layers.{apart_both, apart_each, pairwise_both, all_of_both, all_from_both, frame_then, frame_weaken, frame_reflexive}
-use Rattle.arena_exchange.proofs.Layers.{all_turned}
+use Rattle.arena_kinds.proofs.Layers.{all_turned}
 use Rattle.arena_items.specs.Footprint.{AreReadable, Agree}
 use Rattle.arena_tree.specs.Folding.{IsWithin}
 use Rattle.arena_tree.specs.FoldingParts.{IsClear, WritesIn, Shrinks}

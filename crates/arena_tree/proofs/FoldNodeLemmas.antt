@@ -5,7 +5,7 @@ use Rattle.arena_chunks.specs.Memory.{Memory}
 use Rattle.arena_chunks.specs.Frame.{AreAllApart}
 use Rattle.arena_store.specs.declared.block.Block.{Block}
 use Rattle.arena_chunks.proofs.Layers.{all_from_both}
-use Rattle.arena_exchange.proofs.Layers.{all_turned}
+use Rattle.arena_kinds.proofs.Layers.{all_turned}
 use Rattle.arena_items.specs.Footprint.{AreReadable}
 use Rattle.arena_vec.specs.Vecs.{vec_list}
 use Rattle.arena_vec.specs.declared.vec.Vec.{Vec}

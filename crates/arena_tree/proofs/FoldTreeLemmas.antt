@@ -4,7 +4,7 @@ use Rattle.std.proofs.Common.{ℕ, ◌+◌, ◌/◌, ◌≡◌, [], subst, sym, 
 use Rattle.arena_chunks.specs.Memory.{Memory}
 use Rattle.arena_chunks.specs.Source.{View}
 use Rattle.arena_chunks.proofs.Layers.{frame_weaken}
-use Rattle.arena_exchange.proofs.Layers.{all_turned}
+use Rattle.arena_kinds.proofs.Layers.{all_turned}
 use Rattle.arena_rules.specs.State.{used_bytes}
 use Rattle.arena_items.specs.Room.{SamePlaces}
 use Rattle.arena_vec.specs.Vecs.{vec_list}

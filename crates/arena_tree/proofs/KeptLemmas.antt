@@ -5,7 +5,7 @@ use Rattle.arena_chunks.specs.Memory.{Memory}
 use Rattle.arena_chunks.specs.Frame.{IsApart, AreAllApart}
 use Rattle.arena_store.specs.declared.block.Block.{Block}
 use Rattle.arena_chunks.proofs.Layers.{all_from_both}
-use Rattle.arena_exchange.proofs.Layers.{all_turned}
+use Rattle.arena_kinds.proofs.Layers.{all_turned}
 use Rattle.tree_nodes.specs.declared.node.Node.{Node}
 use Rattle.arena_tree.specs.TreesAt.{OfLists, OfTexts, expr_blocks, AreLean}
 use Rattle.arena_tree.specs.StmtsAt.{stmt_blocks}

@@ -3,7 +3,7 @@ use Rattle.std.specs.Prelude.{◌≡◌, ℕ, ◌+◌, ◌*◌, ◌^◌, ◌≤�
 use Rattle.arena_chunks.specs.Source.{View}
 use Rattle.arena_chunks.specs.Frame.{Frame}
 use Rattle.arena_chunks.specs.Asking.{AsksWithin, IsStarved, IsFull, IsCounted}
-use Rattle.arena_items.specs.Costs.{used}
+use Rattle.arena_items.specs.Costs.{used, KeepsKind}
 use Rattle.arena_items.specs.Denied.{Layouts, IsDenied}
 use Rattle.tree_rules.specs.Trees.{Stmts}
 use Rattle.tree_rules.specs.Refusals.{TreeOf}
@@ -11,7 +11,6 @@ use Rattle.tree_rules.specs.declared.refused.Refused.{Refused}
 use Rattle.tree_rules.specs.declared.refused.Refused.TheVariants as refused
 use Rattle.arena_tree.specs.StmtsAt.{AreBuilt}
 use Rattle.arena_tree.specs.Layouts.{AskedFor}
-use Rattle.arena_tree.specs.Spending.{KeepsKind}
 use Rattle.arena_tree.specs.declared.stop.Stop.{Stop}
 use Rattle.arena_tree.specs.declared.stop.Stop.TheVariants as stop
 use Rattle.arena_tree.specs.declared.tree.Tree.{Tree}

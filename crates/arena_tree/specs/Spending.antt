@@ -3,7 +3,7 @@ use Rattle.std.specs.Prelude.{ℕ, ◌+◌, ◌-◌, ◌*◌, ◌≤◌, Bool, R
 use Rattle.arena_chunks.specs.Source.{View}
 use Rattle.arena_chunks.specs.Frame.{Frame}
 use Rattle.arena_vec.specs.declared.vec.Vec.{Vec}
-pub use Rattle.tree_nodes.specs.Spending.{KeepsKind, far_end, IsStarvedBehind, IsRefused, Stops, Spends, SpendsOnMore, error_of, node_cost, credit}
+pub use Rattle.tree_nodes.specs.Spending.{far_end, IsStarvedBehind, IsRefused, Stops, Spends, SpendsOnMore, error_of, node_cost, credit}
 use Rattle.tree_nodes.specs.declared.node.Node.{Node}
 use Rattle.tree_rules.specs.Tokens.{Token, Star}
 use Rattle.tree_rules.specs.Trees.{Expr, Exprs}

@@ -8,7 +8,7 @@ ghost use Rattle.arena_tree.specs.Subtrees.{Subtree, lists_at, texts_at, has_kid
 ghost use Rattle.arena_tree.specs.FoldingParts.{CanFold, CanFoldRow, IsWhole, IsFolded, FoldsRow, IsRule, IsSubtree, IsNegation, IsTotalNode, capped, added, total_of, total_in, numbers_in};
 
 use arena_chunks::{Allocator, ChunkSource};
-use arena_exchange::ReplaceWith;
+use arena_kinds::ReplaceWith;
 use arena_vec::Vec;
 use tree_nodes::{Kind, Node, kids, number};
 

@@ -12,7 +12,7 @@ use Rattle.arena_clone.specs.Kinds.{Kind, text, semantic_id}
 use Rattle.arena_clone.specs.laws.KindLaws.{IsLawful, text_lawful, semantic_id_lawful}
 use Rattle.arena_clone.specs.Copies.{Copies}
 use Rattle.arena_clone.specs.Origins.{IsOrigin}
-use Rattle.arena_exchange.specs.declared.ids.CloneInSemanticIds.{CloneInSemanticIds}
+use Rattle.arena_kinds.specs.declared.ids.CloneInSemanticIds.{CloneInSemanticIds}
 use Rattle.arena_clone.specs.declared.semantic_id.SemanticId.{SemanticId}
 use Rattle.arena_clone.proofs.Layers.{frame_more, makes_both, makes_refused, placed_copied, placed_held, second_refused}
 use Rattle.example_collections.specs.Branches.{inside_of, branch_of}

@@ -10,7 +10,7 @@ use Rattle.arena_vec.specs.declared.vec.Vec.{Vec}
 use Rattle.arena_clone.specs.Copies.{Copies}
 use Rattle.arena_clone.specs.Kinds.{Kind, vec_of}
 use Rattle.arena_clone.specs.Placing.{answer_of}
-use Rattle.arena_exchange.specs.declared.ids.CloneInSemanticIds.TheVariants.{With}
+use Rattle.arena_kinds.specs.declared.ids.CloneInSemanticIds.TheVariants.{With}
 
 -- If the list was copied, a value is appended to it. The result is the copy, or the first error.
 abbrev pub PushesAfter : {T : Type 0} → Ghosts T → View → View → Vec T → T → Result (Vec T) AllocError → Vec T

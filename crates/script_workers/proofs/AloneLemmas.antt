@@ -13,7 +13,7 @@ use Rattle.script_rules.specs.declared.commands.Ended.TheVariants as ended
 use Rattle.script_rules.specs.declared.outcome.Outcome.{Outcome}
 use Rattle.script_rules.proofs.RunLemmas.{first_within}
 use Rattle.arena_script.specs.Acts.{used}
-use Rattle.arena_script.specs.Serves.{KeepsKind}
+use Rattle.arena_items.specs.Costs.{KeepsKind}
 use Rattle.arena_script.specs.Running.{IsStoppedAt, cost_with_next, objects_so_far}
 use Rattle.arena_workers.specs.Working.{IsDone, IsServed, IsUnserved as HasNoArena}
 use Rattle.arena_workers.specs.declared.served.Served.{Served}

@@ -8,12 +8,12 @@ use Rattle.arena_chunks.specs.Source.{View}
 use Rattle.arena_chunks.specs.Frame.{Frame}
 use Rattle.arena_store.specs.declared.block.Block.{Block}
 use Rattle.arena_chunks.proofs.Layers.{asks_same, frame_reflexive, frame_then, frame_forget}
-use Rattle.arena_items.specs.Costs.{used}
+use Rattle.arena_items.specs.Costs.{used, KeepsKind}
 use Rattle.arena_items.specs.Denied.{Layouts}
 use Rattle.arena_items.specs.declared.room.AllocError.{AllocError}
 use Rattle.arena_items.specs.declared.room.AllocError.TheVariants.{AllocErr, CapacityOverflow, OutOfMemory}
 use Rattle.arena_chunks.specs.Asking.{IsCounted}
-use Rattle.tree_nodes.specs.Spending.{KeepsKind, IsStarvedBehind, Stops, Spends, error_of}
+use Rattle.tree_nodes.specs.Spending.{IsStarvedBehind, Stops, Spends, error_of}
 
 pub frame_kind : {old new : Memory} {before after : List Block} → Frame old new before after → KeepsKind old new
 frame_kind frame = record { is_growing = frame.is_growing; allocated = frame.allocated }

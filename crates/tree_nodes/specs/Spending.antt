@@ -1,22 +1,16 @@
 -- What calls that place nodes cost: the bytes that come into use, the chunks that are asked for, and why a block was refused.
 use Rattle.std.specs.Prelude.{◌≡◌, ℕ, ◌+◌, ◌*◌, ◌^◌, ◌<◌, ◌≤◌, ◌⊎◌, true, false, Result, Ok, Err, Option, Some, None, []}
 use Rattle.arena_rules.specs.State.{top_of, allocated_bytes}
-use Rattle.arena_chunks.specs.Memory.{Memory}
 use Rattle.arena_chunks.specs.Source.{View}
 use Rattle.arena_chunks.specs.Frame.{Frame}
 use Rattle.arena_chunks.specs.Asking.{AsksWithin, IsRefusedBySource, IsCounted, IsFull}
-use Rattle.arena_items.specs.Costs.{used}
+use Rattle.arena_items.specs.Costs.{used, KeepsKind}
 use Rattle.arena_items.specs.Denied.{Layouts, IsDenied}
 use Rattle.arena_items.specs.declared.room.AllocError.{AllocError}
 use Rattle.arena_items.specs.declared.room.AllocError.TheVariants.{AllocErr, CapacityOverflow, OutOfMemory}
 use Rattle.arena_vec.specs.Credit.{credit_of}
 use Rattle.arena_vec.specs.declared.vec.Vec.{Vec}
 use Rattle.tree_nodes.specs.declared.node.Node.{Node}
-
--- An arena that grows still does, and one that doesn't keeps its number of bytes.
-pub record KeepsKind (old new : Memory) : Type 0 where
-  pub is_growing : new.state.is_growing ≡ old.state.is_growing
-  pub allocated : old.state.is_growing ≡ false → allocated_bytes new.state ≡ allocated_bytes old.state
 
 -- the newest data end up to which there is a place for a block of any size that an arena may hold
 abbrev pub far_end : ℕ

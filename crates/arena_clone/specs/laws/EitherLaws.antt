@@ -7,8 +7,8 @@ use Rattle.arena_clone.specs.Kinds.{Kind, AreAlike}
 use Rattle.arena_clone.specs.EitherKind.{sum_of, either_of}
 use Rattle.arena_clone.specs.laws.KindLaws.{IsLawful}
 use Rattle.arena_clone.specs.Copies.{IsFlat}
-use Rattle.arena_exchange.specs.declared.ids.CloneInSemanticIds.{CloneInSemanticIds}
-use Rattle.arena_exchange.specs.declared.ids.CloneInSemanticIds.TheVariants.{With}
+use Rattle.arena_kinds.specs.declared.ids.CloneInSemanticIds.{CloneInSemanticIds}
+use Rattle.arena_kinds.specs.declared.ids.CloneInSemanticIds.TheVariants.{With}
 
 module _ {A B : Type 0} {first : Kind A} {second : Kind B} {ids : CloneInSemanticIds} (flat : IsFlat first ids)
     (also : IsFlat second ids) where

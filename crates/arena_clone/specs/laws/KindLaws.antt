@@ -5,10 +5,10 @@ use Rattle.std.proofs.lemmas.Bool.{false≢true}
 use Rattle.arena_items.specs.laws.FootprintLaws.{held_again}
 use Rattle.arena_items.specs.Values.{elements}
 use Rattle.arena_bits.specs.Bits.{bits_of}
-use Rattle.arena_exchange.specs.Copies.{IsFlat}
-pub use Rattle.arena_exchange.specs.laws.KindLaws.{IsLawful, plain_lawful, text_lawful, all_each, readable_both, readable_each, agree_each, option_lawful, row_lawful, both_lawful, box_lawful, slice_lawful, vec_lawful}
-use Rattle.arena_exchange.specs.declared.ids.CloneInSemanticIds.{CloneInSemanticIds}
-use Rattle.arena_exchange.specs.declared.ids.CloneInSemanticIds.TheVariants.{With, Without}
+use Rattle.arena_kinds.specs.Copies.{IsFlat}
+pub use Rattle.arena_kinds.specs.laws.KindLaws.{IsLawful, plain_lawful, text_lawful, all_each, readable_both, readable_each, agree_each, option_lawful, row_lawful, both_lawful, box_lawful, slice_lawful, vec_lawful}
+use Rattle.arena_kinds.specs.declared.ids.CloneInSemanticIds.{CloneInSemanticIds}
+use Rattle.arena_kinds.specs.declared.ids.CloneInSemanticIds.TheVariants.{With, Without}
 use Rattle.arena_clone.specs.Kinds.{keeps_ids, semantic_id, builder, bit_set}
 
 id_flat : (ids : CloneInSemanticIds) → IsTrue (keeps_ids ids) → IsFlat semantic_id ids

@@ -1,4 +1,4 @@
-use Rattle.arena_exchange.proofs.Layers.{placed_stays, made_stays, beside_new, all_turned}
+use Rattle.arena_kinds.proofs.Layers.{placed_stays, made_stays, beside_new, all_turned}
 use Rattle.arena_clone.proofs.laws.copy_law.Goals as goal
 
 pub returns : goal.returns

@@ -1,4 +1,4 @@
-use Rattle.arena_exchange.proofs.Layers.{deep_stays}
+use Rattle.arena_kinds.proofs.Layers.{deep_stays}
 use Rattle.arena_clone.proofs.laws.deep_frame_law.Goals as goal
 
 pub returns : goal.returns

@@ -1,6 +1,6 @@
 use Rattle.std.proofs.lemmas.Bool.Decides.{nat_tests}
 use Rattle.std.proofs.Common.{rules, ◌≡◌, ◌-◌, ◌∙◌, refl, sym, Some, None, arith}
-use Rattle.arena_exchange.proofs.Layers.{same_places}
+use Rattle.arena_kinds.proofs.Layers.{same_places}
 use Rattle.arena_items.proofs.Layers.{same_then}
 use Rattle.arena_tree.specs.FoldingParts.{CanFold, kids_folded}
 use Rattle.tree_nodes.proofs.SubtreeLemmas.{kids_at}

@@ -1,4 +1,4 @@
-use Rattle.arena_exchange.proofs.Layers.{all_turned}
+use Rattle.arena_kinds.proofs.Layers.{all_turned}
 use Rattle.arena_vec.specs.Vecs.{vec_list}
 use Rattle.arena_tree.specs.Folding.{footprint}
 use Rattle.arena_tree.specs.TreesAt.{node_item}

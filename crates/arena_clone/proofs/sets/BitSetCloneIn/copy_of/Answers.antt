@@ -3,7 +3,7 @@ use Rattle.std.proofs.lemmas.Result.{err_from_is_err_and}
 use Rattle.arena_items.specs.Layout.IsAlign.{eight}
 use Rattle.arena_bits.specs.Bits.{words_for}
 use Rattle.arena_clone.proofs.LayoutLemmas.{readable_layout}
-use Rattle.arena_exchange.proofs.Layers.{one_refused}
+use Rattle.arena_kinds.proofs.Layers.{one_refused}
 use Rattle.arena_clone.proofs.sets.BitSetCloneIn.copy_of.Goals as goal
 
 pub place_copy-requires-clause-fits : goal.place_copy-requires-clause-fits
