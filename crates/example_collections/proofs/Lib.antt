@@ -5,4 +5,3 @@ mod BranchLemmas
 mod BesideLemmas
 mod ByteLemmas
 mod FillingLemmas
-mod TextLemmas

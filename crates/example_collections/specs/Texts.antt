@@ -1,5 +1,5 @@
 -- Texts that are made byte by byte.
-use Rattle.std.specs.Prelude.{◌≡◌, ℕ, ◌<◌, [], ◌∷◌, ◌++◌, replicate, Result, Ok, Err}
+use Rattle.std.specs.Prelude.{◌≡◌, ℕ, ◌<◌, [], ◌∷◌, ◌++◌, replicate, Result, Err}
 use Rattle.arena_chunks.specs.Source.{View}
 use Rattle.arena_chunks.specs.Frame.{Frame}
 use Rattle.arena_items.specs.declared.room.AllocError.{AllocError}
@@ -8,12 +8,6 @@ use Rattle.arena_text.specs.Builders.{IsBuilderIn, builder_bytes}
 use Rattle.arena_text.specs.Changes.{Grows}
 use Rattle.arena_text.specs.declared.text.StringBuilder.{StringBuilder}
 
--- A byte was pushed n times to a new text, and nothing else was done.
-abbrev pub PushesRow : ℕ → ℕ → View → View → StringBuilder → Type 0
-PushesRow byte 0 old new t = (new ≡ old) × (t.len ≡ 0) × (t.cap ≡ 0)
-PushesRow byte (suc n) old new t = (mid : View) × (u : StringBuilder) × PushesRow byte n old mid u
-    × Grows mid new u (amortised_growth u.cap u.len 1) (builder_bytes mid.memory u ++ byte ∷ []) t (Ok tt)
-
 -- A new text of `n` times the same byte, in a block that was free.
 pub record IsRow (old new : View) (byte n : ℕ) (t : StringBuilder) : Type 0 where
   pub held : IsBuilderIn new.memory t
@@ -21,7 +15,6 @@ pub record IsRow (old new : View) (byte n : ℕ) (t : StringBuilder) : Type 0 wh
   pub len : t.len ≡ n
   pub room : IsRoomFor t.len t.cap
   pub frame : Frame old.memory new.memory [] (t.block ∷ [])
-  pub pushes : PushesRow byte n old new t
 
 -- After some of the bytes, the push of one more failed.
 pub record IsRefusedRow (old new : View) (byte n : ℕ) (e : AllocError) : Type 0 where

@@ -38,7 +38,6 @@ pub fn rule_of<C: ChunkSource>(byte: u8, n: u64, a: &mut Allocator<C>) -> Grown<
 /// # Errors
 ///
 /// Those of `push_ascii_byte`, for one of the bytes. The text so far stays in the arena.
-#[tactic(auto, using(crate::proofs::TextLemmas::one_pushed))]
 pub fn row_of<C: ChunkSource>(byte: u8, n: u64, a: &mut Allocator<C>) -> Grown<StringBuilder>
     requires { byte < 128 }
     ensures row { IfOk result (IsRow a.old a.new byte n) }
