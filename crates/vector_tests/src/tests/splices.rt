@@ -7,11 +7,11 @@ use arena_vec::{Grown, Vec};
 use std::alloc::Global;
 use std::process::Abort;
 
-// The values at the ends of a range, the result, and how many items were taken.
-type Told = ((Option<u32>, Option<u32>), Grown<()>, u64);
+// The values at the ends of a range, and the result.
+type Told = ((Option<u32>, Option<u32>), Grown<()>);
 
-// Takes a value from each end of a range, and replaces the range by the numbers from 7. Returns the two values, the
-// result, and how many of the numbers were taken.
+// Takes a value from each end of a range, and replaces the range by the numbers from 7. Returns the two values and
+// the result.
 fn splice(
     rt: &impl Abort,
     a: &mut Memory,
@@ -22,12 +22,11 @@ fn splice(
     known(rt, a, *vec);
     let (start, end) = range;
     assert!(rt; start <= end && end <= vec.len());
-    let mut taken = 0;
-    let mut gone = vec.splice(a, start, end, hints.counting(7, &mut taken));
+    let mut gone = vec.splice(a, start, end, hints.numbers(7));
     same(rt, gone.len(), (end - start) as usize);
     let ends = (gone.next(), gone.next_back());
     let answer = gone.finish();
-    (ends, answer, taken)
+    (ends, answer)
 }
 
 // A range of 1 to 4, the hint, the values at the range's ends, the list after the call, and the bytes in use: those of
@@ -41,36 +40,34 @@ const RANGES: &[Row] = &[
     ((1, 3), AtLeast(0, 3), (2, 3), &[1, 7, 8, 9, 4], 52),
     // The lower bound is higher than the number of values.
     ((1, 3), AtLeast(5, 3), (2, 3), &[1, 7, 8, 9, 4], 36),
-    ((1, 3), AtLeast(150, 3), (2, 3), &[1, 7, 8, 9, 4], 616),
     // There is nothing after the range.
     ((2, 4), AtLeast(4, 3), (3, 4), &[1, 2, 7, 8, 9], 36),
 ];
 
-// In an arena of 16 bytes there is no room for the third value, which the hint announces: two are taken.
+// In an arena of 16 bytes there is no room for the third value, which the hint announces.
 const THIRD: Row = ((1, 3), Exactly(3), (2, 3), &[1, 7, 8, 4], 16);
 
-// In an arena of 32 bytes, of the five other values four are collected, and the fifth is taken.
+// In an arena of 32 bytes, of the five other values four are collected.
 const FIFTH: Row = ((1, 3), AtLeast(0, 7), (2, 3), &[1, 7, 8, 4], 32);
 
-// Checks a row in an arena of `bytes` bytes, with this result and so many items taken.
-fn splices(rt: &impl Abort, alloc: Global, bytes: usize, row: &Row, wanted: (Grown<()>, u64)) {
+// Checks a row in an arena of `bytes` bytes, with this result.
+fn splices(rt: &impl Abort, alloc: Global, bytes: usize, row: &Row, wanted: Grown<()>) {
     let (range, hints, (first, last), list, used) = row;
     let mut a = fixed(rt, alloc, bytes);
     let mut vec = vec_of(rt, &mut a, &[1u32, 2, 3, 4]);
     let found = splice(rt, &mut a, &mut vec, *range, hints);
     is_list(rt, &a, vec, list);
-    let told = ((Some(*first), Some(*last)), wanted.0, wanted.1);
+    let told = ((Some(*first), Some(*last)), wanted);
     same_at(rt, *list, (found, a.used_bytes()), (told, *used));
 }
 
 #[test]
 fn of_ranges(rt: HostRuntime) {
     for row in RANGES {
-        let all = (row.3.len() as u64).saturating_sub(2);
-        splices(&rt, rt.alloc(), 1024, row, (Ok(()), all));
+        splices(&rt, rt.alloc(), 1024, row, Ok(()));
     }
-    splices(&rt, rt.alloc(), 16, &THIRD, (NONE_REFUSED, 2));
-    splices(&rt, rt.alloc(), 32, &FIFTH, (NONE_REFUSED, 7));
+    splices(&rt, rt.alloc(), 16, &THIRD, NONE_REFUSED);
+    splices(&rt, rt.alloc(), 32, &FIFTH, NONE_REFUSED);
 }
 
 // The capacity is doubled for the third value.
@@ -78,7 +75,7 @@ fn of_ranges(rt: HostRuntime) {
 fn the_capacity(rt: HostRuntime) {
     let mut a = fixed(&rt, rt.alloc(), 1024);
     let mut vec = vec_of(&rt, &mut a, &[1u32, 2, 3, 4]);
-    let told = splice(&rt, &mut a, &mut vec, (1, 3), &Exactly(3));
-    same(&rt, told, ((Some(2), Some(3)), Ok(()), 3));
+    let (ends, grown) = splice(&rt, &mut a, &mut vec, (1, 3), &Exactly(3));
+    same(&rt, (ends, grown), ((Some(2), Some(3)), Ok(())));
     same(&rt, vec.capacity(), 8);
 }
