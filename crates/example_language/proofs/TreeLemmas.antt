@@ -8,7 +8,7 @@ use Rattle.arena.specs.AllocErrorType.{AllocError}
 use Rattle.arena.specs.Asks.{Ask, AsksFor}
 use Rattle.arena.specs.BlockType.{Block}
 use Rattle.arena.specs.Frame.{AreAllApart, Frame}
-use Rattle.arena.specs.Interning.{Interns}
+use Rattle.arena.specs.Interning.{Interns, KeepsTexts}
 use Rattle.arena.specs.Memory.{Memory}
 use Rattle.arena.specs.Source.{View}
 use Rattle.arena.specs.SymbolNames.{IsInternerIn, names_footprint}
@@ -75,11 +75,16 @@ pub nodes_moved : (old new : View) (tree : Tree) {nodes : Vec Node} → AreNodes
     → Moves old new tree (record tree { nodes = nodes })
 nodes_moved old new tree {nodes = x3} are frame names same apart counts = grind (arith, nat_tests, frame_beside)
 
+-- An interner that keeps its texts wrote its own blocks alone.
+kept_frame : {old new : View} {names after : Symbols} (more : List Block) → KeepsTexts old new names after more
+    → Frame old.memory new.memory (names_footprint old.memory names) (names_footprint new.memory after)
+kept_frame {names = x0} {after = x1} more keeps = grind (arith, nat_tests, frame_weaken, apart_both)
+
 -- A call that interns a text writes blocks of the interner alone.
 pub interned : {old new : View} {names after : Symbols} {text : List ℕ} {result : Result ℕ AllocError}
     → Interns old new names after text result
     → Frame old.memory new.memory (names_footprint old.memory names) (names_footprint new.memory after)
-interned {names = x0} {after = x1} interns = grind (arith, nat_tests, frame_weaken, apart_both)
+interned interns = kept_frame interns.texts.0 interns.texts.1
 
 -- It leaves the nodes.
 pub names_moved : {old new : View} (tree : Tree) {names : Symbols} {text : List ℕ} {result : Result ℕ AllocError}
