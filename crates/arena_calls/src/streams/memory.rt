@@ -146,8 +146,7 @@ impl Output for MemoryOutput {
     ghost faults = { λ m. m.faults };
 
     fn write(&mut self, piece: &[u8]) -> Result<usize, Failed>
-        requires { 0 < length piece.now }
-        ensures some { IfOk result (λ n. 0 < n) }
+        ensures some { IfOk result (λ n. 0 < length piece.now → 0 < n) }
         ensures within { IfOk result (λ n. n ≤ length piece.now) }
         ensures bytes { let written = ⟦<MemoryOutput as Output>⟧.written in
             IfOk result (λ n. Writes (written self.old) (written self.new) (take n piece.now)) }

@@ -39,14 +39,13 @@ pub trait Output {
     // How often it has failed. The count saturates at 2 ^ 64 - 1.
     ghost faults: { Self → ℕ };
 
-    /// Writes bytes from the front of the piece, at least one, and returns their number.
+    /// Writes bytes from the front of the piece, at least one unless it is empty, and returns their number.
     ///
     /// # Errors
     ///
     /// The write failed. No byte was taken.
     fn write(&mut self, piece: &[u8]) -> Result<usize, Failed>
-        requires { 0 < length piece.now }
-        ensures some { IfOk result (λ n. 0 < n) }
+        ensures some { IfOk result (λ n. 0 < length piece.now → 0 < n) }
         ensures within { IfOk result (λ n. n ≤ length piece.now) }
         ensures bytes { IfOk result (λ n. Writes (written self.old) (written self.new) (take n piece.now)) }
         ensures same { OnErr result (Keeps (written self.old) (written self.new)) }
