@@ -2,12 +2,13 @@
 //! distance.
 #![tactic(auto)]
 
+mod carry;
+mod changes;
 mod far;
 mod gap;
 mod key;
 mod pairs;
 mod put;
-mod rehash;
 mod search;
 mod table;
 

@@ -12,7 +12,8 @@ use Rattle.tree_nodes.specs.declared.node.Node.{Node}
 use Rattle.tree_nodes.specs.NodeForms.{number_node}
 use Rattle.tree_nodes.specs.TreesAt.{node_item, kids_of, kids_in, no_kids, IsLeanFor, IsLean, AreLeanTo, AreLean, of_first, expr_blocks, exprs_blocks}
 use Rattle.tree_nodes.specs.StmtsAt.{stmt_blocks, stmts_blocks}
-use Rattle.tree_nodes.specs.laws.TreeLaws.{list_same, agree_each}
+use Rattle.arena_kinds.specs.laws.KindLaws.{agree_each}
+use Rattle.tree_nodes.specs.laws.TreeLaws.{list_same}
 use Rattle.tree_nodes.specs.Subtrees.{Subtree, OfExpr, OfStmt, SubtreeAt, blocks_at, expr_row, stmt_row, RowAt, row_blocks, has_kids}
 use Rattle.tree_nodes.proofs.SubtreeLemmas.{kids_it, kids_at, true_false}
 

@@ -13,7 +13,8 @@ use Rattle.tree_rules.specs.Trees.{Expr, Exprs, NoExprs, And, with_expr, Stmt, S
 use Rattle.tree_nodes.specs.declared.node.Node.{Node}
 use Rattle.tree_nodes.specs.TreesAt.{node_item, AreLean, IsBuilt}
 use Rattle.tree_nodes.specs.StmtsAt.{AreBuilt}
-use Rattle.tree_nodes.specs.laws.TreeLaws.{list_same, expr_readable, expr_names, expr_again, readable_both, readable_each, agree_each}
+use Rattle.arena_kinds.specs.laws.KindLaws.{readable_both, readable_each, agree_each}
+use Rattle.tree_nodes.specs.laws.TreeLaws.{list_same, expr_readable, expr_names, expr_again}
 use Rattle.tree_nodes.specs.laws.StmtLaws.{stmt_readable, stmt_names, stmt_again}
 use Rattle.tree_nodes.specs.Subtrees.{Subtree, OfExpr, OfStmt, SubtreeAt, blocks_at, below_it, row_nodes, HasTree, expr_row, stmt_row, RowAt, row_blocks, IsTreePlaced, IsRowBuilt, AreGathered, IsRowRead}
 use Rattle.tree_nodes.proofs.StayLemmas.{stay_all, all_none, turned_one, frame_behind}

@@ -7,7 +7,8 @@ use Rattle.tree_rules.specs.Trees as tree
 use Rattle.tree_nodes.specs.declared.node.Node.{Node}
 use Rattle.tree_nodes.specs.TreesAt.{kids_of, kids_in, IsOnly, of_first, ExprAt, Which, OfBoth, with_list, with_text, expr_named, expr_blocks}
 use Rattle.tree_nodes.specs.StmtsAt.{StmtAt, StmtsAt, stmt_named, stmts_named, stmt_blocks, stmts_blocks}
-use Rattle.tree_nodes.specs.laws.TreeLaws.{list_same, list_held, readable_both, readable_each, agree_each, expr_readable, expr_same, expr_again, first_agree, only_again}
+use Rattle.arena_kinds.specs.laws.KindLaws.{readable_both, readable_each, agree_each}
+use Rattle.tree_nodes.specs.laws.TreeLaws.{list_same, list_held, expr_readable, expr_same, expr_again, first_agree, only_again}
 
 only_readable : (e : Expr) (m : Memory) (ns : List Node) → IsOnly ns (λ k. ExprAt e m k) → AreReadable m.state (of_first ns (λ k.
     expr_blocks e m k))

@@ -6,6 +6,7 @@ use Rattle.arena_store.specs.declared.block.Block.{Block}
 use Rattle.arena_items.specs.Footprint.{AreReadable, Agree}
 use Rattle.arena_items.specs.laws.FootprintLaws.{held_again}
 use Rattle.arena_items.specs.Values.{bytes_of, elements}
+use Rattle.arena_kinds.specs.laws.KindLaws.{readable_both, readable_each, agree_each}
 use Rattle.arena_vec.specs.Vecs.{IsVecIn, vec_list}
 use Rattle.arena_vec.specs.declared.vec.Vec.{Vec}
 use Rattle.tree_rules.specs.Trees.{Expr, Num, Name, Neg, Sum, Prod, Exprs, NoExprs, And}
@@ -24,25 +25,6 @@ list_held a c v held readable = record {
   within = held.within;
   no_bytes = held.no_bytes;
 }
-
--- ---- Blocks of two parts
-
-all_both : {X : Type 0} (P : X → Type 0) (xs ys : List X) → AllByRecursion P xs → AllByRecursion P ys → AllByRecursion P (xs ++ ys)
-all_both P [] ys first second = second
-all_both P (x ∷ xs) ys first second = (first.0, all_both P xs ys first.1 second)
-
-all_each : {X : Type 0} (P : X → Type 0) (xs ys : List X) → AllByRecursion P (xs ++ ys) → AllByRecursion P xs × AllByRecursion P ys
-all_each P [] ys all = (tt, all)
-all_each P (x ∷ xs) ys all = let rest = all_each P xs ys all.1 in ((all.0, rest.0), rest.1)
-
-pub readable_both : (m : Memory) (bs cs : List Block) → AreReadable m.state bs → AreReadable m.state cs → AreReadable m.state (bs ++ cs)
-readable_both m = all_both (λ (b : Block). IsTrue (is_readable m.state b))
-
-pub readable_each : (m : Memory) (bs cs : List Block) → AreReadable m.state (bs ++ cs) → AreReadable m.state bs × AreReadable m.state cs
-readable_each m = all_each (λ (b : Block). IsTrue (is_readable m.state b))
-
-pub agree_each : (a c : Memory) (bs cs : List Block) → Agree a c (bs ++ cs) → Agree a c bs × Agree a c cs
-agree_each a c = all_each (λ (b : Block). bytes_of a b ≡ bytes_of c b)
 
 -- ---- A tree that is represented may be read
 

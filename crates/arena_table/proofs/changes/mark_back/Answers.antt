@@ -2,7 +2,7 @@ use Rattle.std.proofs.Common.{◌≡◌, ◌-◌, ◌<◌, ap, ◌∙◌, arith}
 use Rattle.hash_ring.specs.Marks.{mark_of}
 use Rattle.arena_table.proofs.EditedLemmas.{back-away, back-distance}
 use Rattle.arena_table.proofs.HandleLemmas.{held-taken}
-use Rattle.arena_table.proofs.rehash.mark_back.Goals as goal
+use Rattle.arena_table.proofs.changes.mark_back.Goals as goal
 
 pub returns-then-mark-lt-FAR : goal.returns-then-mark-lt-FAR
 returns-then-mark-lt-FAR g c = λ x there.

@@ -1,28 +1,25 @@
-// Changes of a table that may hash keys again: if marks don't give a pair's distance from its home, or if all pairs
-// move to another table.
-ghost use Rattle.std.specs.Prelude.{◌≡◌, ℕ, ◌+◌, ◌^◌, ◌<◌, ◌≤◌, [], ◌∷◌, Some, None};
-ghost use Rattle.std.specs.Prelude.{length, replicate, slice_get, slice_index};
-ghost use Rattle.std.specs.Option.{MatchOption};
+// Changes of a table: a pair is put, or a slot's pair goes. A key is hashed again if its mark doesn't give its distance
+// from its home.
+ghost use Rattle.std.specs.Prelude.{◌≡◌, ℕ, ◌+◌, ◌^◌, ◌<◌, ◌≤◌, [], ◌∷◌, Some};
+ghost use Rattle.std.specs.Prelude.{slice_get, slice_index};
 ghost use Rattle.arena_chunks.specs.Frame.{Frame};
 ghost use Rattle.arena_items.specs.Values.{bytes_of};
 ghost use Rattle.arena_items.specs.Room.{SamePlaces};
 ghost use Rattle.hash_ring.specs.Searches.{IsSpotFor};
-ghost use Rattle.hash_ring.specs.Slots.{items, Closed, IsAway, IsPlaceFor, Moved, Settled};
+ghost use Rattle.hash_ring.specs.Slots.{Closed, IsAway, IsPlaceFor, Settled};
 ghost use Rattle.hash_ring.specs.Marks.{home_of, mark_of};
-ghost use Rattle.hash_ring.specs.Walks.{front_of, AreFree, CarriesNext, IsScan};
 ghost use Rattle.arena_table.specs.Contents.{kind, content_in};
-ghost use Rattle.arena_table.specs.Tables.{marks_in, pair_hash, slots_in, HasFree};
-ghost use Rattle.arena_table.specs.Tables.{IsReadBeside, IsTableIn, IsTextBeside};
+ghost use Rattle.arena_table.specs.Tables.{pair_hash, slots_in, HasFree};
+ghost use Rattle.arena_table.specs.Tables.{IsTableIn, IsTextBeside};
 
 use crate::far::{far_spot, hash_at};
 use crate::gap::{CloseGap, PullBack, is_near};
 use crate::key::ArenaKey;
-use crate::pairs::{key_at, value_at};
 use crate::put::PutPair;
 use crate::table::Table;
 use arena_chunks::{Allocator, ChunkSource};
 use arena_items::{Item, Zeros};
-use hash_ring::{AWAY, FAR, KeyHasher, Scan, distance, mark_of, ring, start, step};
+use hash_ring::{AWAY, FAR, KeyHasher, distance, mark_of, ring};
 use std::marker::PhantomData;
 
 // The mark that the pair of a slot has after it moves back by one.
@@ -217,68 +214,5 @@ impl<K: ArenaKey, V: Item> Table<K, V> {
             of: PhantomData,
         };
         a.write_with(self.block, 0, self.block.size, &close);
-    }
-
-    // Inserts the next pair of a walk over another table, and returns where the walk continues, or `None` at its end.
-    #[tactic(auto, using(crate::proofs::WalkLemmas::walk_laws))]
-    #[inline(always)]
-    fn carry<S: KeyHasher, C: ChunkSource>(
-        self,
-        a: &mut Allocator<C>,
-        hasher: &S,
-        from: Table<K, V>,
-        scan: Scan,
-    ) -> Option<Scan>
-        requires keys_small { K.SIZE ≤ 2 ^ 24 }
-        requires values_small { V.SIZE ≤ 2 ^ 24 }
-        requires held { IsTableIn (kind K.Item K.key V.Item S.hash_of) a.old.memory hasher.now self }
-        requires free { HasFree K.Item V.Item a.old.memory self }
-        requires from { IsReadBeside (kind K.Item K.key V.Item S.hash_of) a.old.memory self.block from }
-        requires scan { IsScan from.slots (marks_in a.old.memory from) scan }
-        ensures held { IsTableIn (kind K.Item K.key V.Item S.hash_of) a.new.memory hasher.now self }
-        ensures carries { MatchOption result (AreFree (marks_in a.old.memory from) (front_of scan) from.slots
-            × (slots_in K.Item V.Item a.new.memory self ≡ slots_in K.Item V.Item a.old.memory self))
-            (CarriesNext from.slots (marks_in a.old.memory from) (slots_in K.Item V.Item a.old.memory from)
-            (slots_in K.Item V.Item a.old.memory self) (slots_in K.Item V.Item a.new.memory self) scan) }
-        ensures places { SamePlaces a.old a.new }
-        ensures frame { Frame a.old.memory a.new.memory (self.block ∷ []) (self.block ∷ []) }
-    {
-        let bytes = a.read(from.block);
-        let (slot, next) = step(bytes, from.slots, scan);
-        let Some(i) = slot else {
-            return None;
-        };
-        let key = key_at::<K, V>(bytes, from.slots, i);
-        let value = value_at::<K, V>(bytes, from.slots, i);
-        let mut room = [0u8; 16];
-        let hash = hasher.hash(key.content(a, &mut room));
-        self.settle(a, hasher, hash, key, value);
-        Some(next)
-    }
-
-    /// Inserts all pairs of another table into this one, which must be empty.
-    #[tactic(auto, using(crate::proofs::WalkLemmas::walk_laws))]
-    pub fn carry_all<S: KeyHasher, C: ChunkSource>(
-        self,
-        a: &mut Allocator<C>,
-        hasher: &S,
-        from: Table<K, V>,
-    )
-        requires keys_small { K.SIZE ≤ 2 ^ 24 }
-        requires values_small { V.SIZE ≤ 2 ^ 24 }
-        requires held { IsTableIn (kind K.Item K.key V.Item S.hash_of) a.old.memory hasher.now self }
-        requires free { slots_in K.Item V.Item a.old.memory self ≡ replicate self.slots None }
-        requires room { length (items (slots_in K.Item V.Item a.old.memory from)) < self.slots }
-        requires from { IsReadBeside (kind K.Item K.key V.Item S.hash_of) a.old.memory self.block from }
-        ensures held { IsTableIn (kind K.Item K.key V.Item S.hash_of) a.new.memory hasher.now self }
-        ensures moved { Moved (slots_in K.Item V.Item a.old.memory from)
-            (slots_in K.Item V.Item a.new.memory self) }
-        ensures places { SamePlaces a.old a.new }
-        ensures frame { Frame a.old.memory a.new.memory (self.block ∷ []) (self.block ∷ []) }
-    {
-        let mut scan = start(a.read(from.block), from.slots);
-        'pairs: while let Some(next) = self.carry(a, hasher, from, scan) {
-            scan = next;
-        }
     }
 }

@@ -7,7 +7,7 @@ use Rattle.arena_items.specs.Values.{bytes_of}
 use Rattle.hash_ring.proofs.Close.{closing-start, closing-less}
 use Rattle.arena_table.proofs.FarGapLemmas.{far-held, far-closing, far-freed, far-closed}
 use Rattle.arena_table.proofs.HandleLemmas.{handle-shape, held-homes, held-taken, held-within, given-whole}
-use Rattle.arena_table.proofs.rehash.close_far.Goals as goal
+use Rattle.arena_table.proofs.changes.close_far.Goals as goal
 
 pub slots-init : goal.slots-init
 slots-init g c =

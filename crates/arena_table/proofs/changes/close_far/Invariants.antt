@@ -5,7 +5,7 @@ use Rattle.hash_ring.specs.Marks.{home_of}
 use Rattle.hash_ring.proofs.Close.{Closing}
 use Rattle.arena_table.specs.Contents.{kind}
 use Rattle.arena_table.specs.Tables.{pair_hash, slots_in, IsTableIn}
-use Rattle.arena_table.proofs.rehash.close_far.Given as goal
+use Rattle.arena_table.proofs.changes.close_far.Given as goal
 
 abbrev pub invariant-slots : goal.invariant-slots
 invariant-slots g l =
