@@ -1,6 +1,7 @@
 #!/bin/bash
 # Times loops, and prints a line for each: the least nanoseconds per call, and next to it those of the driver over the
-# Rust crate, if its program is in NATIVE and has such a loop, with the ratio of the two. For example:
+# Rust crate, if its program is in NATIVE and has such a loop, with the ratio of the two. Beside each figure is its
+# spread: by how much the slowest round took longer. For example:
 #     NATIVE=bench/driver/target/release/native bench/loops.sh vec_push "vec_push 1000"
 #     NATIVE=bench/driver/target/release/native bench/loops.sh hash pool
 # A word is a loop, whose name may be followed by the number of calls and further words; or a section: arena, items,
@@ -69,18 +70,21 @@ awk -F '\t' '
         if ("number" in told) number[$1, $2] = told["number"]
         nanoseconds = "total" in told ? told["total"] * 1000000 / told["ops"] : words[2] + 0
         if (!(($1, $2) in least) || nanoseconds < least[$1, $2]) least[$1, $2] = nanoseconds
+        if (nanoseconds > most[$1, $2]) most[$1, $2] = nanoseconds
     }
+    function spread(key) { return sprintf("%.1f%%", least[key] > 0 ? 100 * (most[key] / least[key] - 1) : 0) }
     END {
-        printf "%-24s %10s %10s %7s\n", "loop", "here", "Rust", "ratio"
+        printf "%-24s  %12s  %7s  %12s  %7s  %7s\n", "loop", "here", "spread", "Rust", "spread", "ratio"
         for (i = 1; i < ARGC - 1; i++) {
             loop = names[i]
             if (!(("here", loop) in least)) { print loop ": no such loop"; failed = 1; continue }
             here = least["here", loop]
-            if (!(("rust", loop) in least)) { printf "%-24s %10.4f\n", loop, here; continue }
+            if (!(("rust", loop) in least)) { printf "%-24s  %12.6f  %7s\n", loop, here, spread("here" SUBSEP loop); continue }
             rust = least["rust", loop]
             other = number["here", loop] != number["rust", loop]
             if (other) failed = 1
-            printf "%-24s %10.4f %10.4f %7.2f%s\n", loop, here, rust, (rust > 0 ? here / rust : 0), (other ? "  OTHER NUMBERS" : "")
+            printf "%-24s  %12.6f  %7s", loop, here, spread("here" SUBSEP loop)
+            printf "  %12.6f  %7s  %7.2f%s\n", rust, spread("rust" SUBSEP loop), (rust > 0 ? here / rust : 0), (other ? "  OTHER NUMBERS" : "")
         }
         exit failed
     }' "$@" "$lines"

@@ -37,26 +37,29 @@ clock() {
     echo $((${ended/./} - ${began/./})) >> "$folder/$1.times"
 }
 
-# tell COUNT WHO..: prints a line of the table, for these programs.
+# tell COUNT WORDS WHO..: prints a line of the table, for these programs. A spread is by how much the slowest round took
+# longer than the fastest.
 tell() {
     {
-        echo "$1"
-        for who in "${@:2}"; do
-            sort -n "$folder/$who.times" | head -n 1
+        for who in "${@:3}"; do
+            sort -n "$folder/$who.times" | sed -n '1p;$p'
             tail -n 1 "$folder/$who.memory"
         done
-    } | paste -sd ' ' | awk '
-        function ratio(a, b) { return sprintf("%7.2f", b > 0 ? a / b : 0) }
-        NF == 3 { printf "%9d %10.2f %10.0f %28.1f\n", $1, $2 / 1000, $2 * 1000 / ($1 + !$1), $3 / 1024 }
-        NF == 5 {
-            printf "%9d %10.2f %10.0f %10.2f %s", $1, $2 / 1000, $2 * 1000 / ($1 + !$1), $4 / 1000, ratio($2, $4)
-            printf " %10.1f %10.1f %s\n", $3 / 1024, $5 / 1024, ratio($3, $5)
+    } | paste -sd ' ' | awk -v count="$1" -v words="$2" '
+        function ratio(a, b) { return sprintf("%.2f", b > 0 ? a / b : 0) }
+        function spread(a, b) { return sprintf("%.1f%%", a > 0 ? 100 * (b / a - 1) : 0) }
+        { printf "%-20s  %9d  %10.3f  %7s", "lines " words, count, $1 / 1000, spread($1, $2) }
+        NF == 3 { printf "  %10.1f\n", $3 / 1024 }
+        NF == 6 {
+            printf "  %10.3f  %7s  %7s", $4 / 1000, spread($4, $5), ratio($1, $4)
+            printf "  %10.1f  %10.1f  %7s\n", $3 / 1024, $6 / 1024, ratio($3, $6)
         }'
 }
 
 # head_of UNIT: prints the head of the table.
 head_of() {
-    printf '%9s %10s %10s %10s %7s %10s %10s %7s\n' "${1}s" 'here, ms' "ns a $1" 'Rust, ms' ratio 'here, MiB' 'Rust, MiB' ratio
+    printf '%-20s  %9s  %10s  %7s  %10s  %7s  %7s  %10s  %10s  %7s\n' words "${1}s" 'here, ms' spread 'Rust, ms' spread ratio \
+        'here, MiB' 'Rust, MiB' ratio
 }
 
 # measure COUNT WORD..: runs the programs with these words, alternating, ROUNDS times (default 5), and prints their
@@ -69,19 +72,19 @@ measure() {
         [ -z "${NATIVE:-}" ] || clock Rust "$NATIVE" "${@:2}"
     done
     if [ -n "${NATIVE:-}" ]; then
-        tell "$1" here Rust
+        tell "$1" "${*:2}" here Rust
         cmp "$folder/here.text" "$folder/Rust.text" || { echo "the texts differ" >&2; exit 1; }
     else
-        tell "$1" here
+        tell "$1" "${*:2}" here
     fi
 }
 
-# by_workers COUNT UNIT WORD: prints a table of this word for each number of workers in WORKERS (default "1 4").
+# by_workers COUNT UNIT WORD: prints a table of this word, with a line for each number of workers in WORKERS (default
+# "1 4").
 by_workers() {
     local workers
+    head_of "$2"
     for workers in ${WORKERS:-1 4}; do
-        echo "workers: $workers"
-        head_of "$2"
         measure "$1" "$3" "$workers"
     done
 }

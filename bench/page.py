@@ -1,29 +1,43 @@
 #!/usr/bin/env python3
-"""Makes what docs/PERFORMANCE.md shows of loops from what bench/all.sh printed, which is in bench/measured.txt or in the file
-that is named: fills the tables of loops and of cost against size, and draws docs/loops.svg and docs/sizes.svg.
+"""Compares what docs/PERFORMANCE.md and README.md show of speed with what bench/all.sh printed, which is in the files
+bench/measured*.txt, one of each machine: the tables of loops, of cost against size and of whole programs, the sentence in
+README, and the plots docs/loops.svg and docs/sizes.svg. Prints the lines that differ, and exits with 1 then. With --write
+it fills and draws them.
 
-    bench/page.py [MEASURED]
+    bench/page.py [--write]
 """
 
 import math
 import pathlib
 import re
+import statistics
 import sys
 
 TOP = pathlib.Path(__file__).resolve().parent.parent
 PAGE = TOP / "docs" / "PERFORMANCE.md"
+README = TOP / "README.md"
+# The columns of the page, in order.
+MEASURED = ("measured.txt", "measured_1mib.txt")
 SIZES = (10000, 100000, 1000000, 10000000)
 CHUNKS = (1, 10, 20, 40)
 HERE, RUST, GRID, TEXT = "#0b6e4f", "#b3541e", "#dddddd", "#222222"
 
 
-def measured(lines):
-    """The nanoseconds of each loop, here and in the Rust crate, by the name and the words after it."""
+def number(cell):
+    return float(cell) if re.fullmatch(r"-?[\d.]+", cell) else None
+
+
+def measured(name):
+    """By the name of a loop and the words after it: its nanoseconds here and in the Rust crate, and their ratio, as the
+    scripts divided them. By `lines` and the words of a program: its milliseconds, their ratio, and MiB with their ratio."""
     found = {}
-    for line in lines:
-        name, *numbers = re.split(r"\s{2,}", line.split("  OTHER")[0].strip())
-        if numbers and re.fullmatch(r"[a-z]\w*( \d+)*", name) and all(re.fullmatch(r"[\d.]+", n) for n in numbers):
-            found[name] = tuple(map(float, numbers[:2])) if len(numbers) == 3 else (float(numbers[0]), None)
+    for line in (TOP / "bench" / name).read_text().split("\n"):
+        key, *cells = re.split(r"\s{2,}", line.split("  OTHER")[0].strip())
+        values = [number(cell) for cell in cells]
+        if re.fullmatch(r"[a-z]\w*( \d+)*", key) and len(values) in (2, 5) and key not in ("loop", "machine", "state"):
+            found[key] = (values[0], values[2] if len(values) == 5 else None, values[4] if len(values) == 5 else None)
+        elif key.startswith("lines ") and len(values) == 9:
+            found[key] = (values[1], values[3], values[5], *values[6:])
     return found
 
 
@@ -33,22 +47,25 @@ def told(nanoseconds):
     return f"{nanoseconds:,.{digits}f}"
 
 
-def loop_row(line, found):
-    """A row of the table of loops with its new figures."""
-    row = re.fullmatch(r"\| `(\w+)`: (.*?) \| [\d.,]+ \| [\d.,]+ \| [\d.,]+ \|", line)
-    if not row or found.get(row[1], (0, None))[1] is None:
+def loop_row(line, machines):
+    """A row of the table of loops with its figures: three columns for each machine."""
+    row = re.fullmatch(r"\| `(\w+)`: (.*?) \|(?: [\d.,]* ?\|)+", line)
+    if not row:
         return line
-    here, rust = found[row[1]]
-    return f"| `{row[1]}`: {row[2]} | {told(here)} | {told(rust)} | {here / rust:.2f} |"
+    cells = []
+    for found in machines:
+        here, rust, ratio = found.get(row[1], (None, None, None))
+        cells += ["" if here is None else told(here), "" if rust is None else told(rust), "" if ratio is None else f"{ratio:.2f}"]
+    return f"| `{row[1]}`: {row[2]} |" + "".join(f" {cell} |" if cell else " |" for cell in cells)
 
 
 def size_row(line, found):
-    """A row of the table of sizes with its new figures."""
+    """A row of the table of sizes with its figures."""
     row = re.match(r"\| `(\w+)` \|.* / ", line)
     if not row or f"{row[1]} {SIZES[0]}" not in found:
         return line
-    pairs = (found.get(f"{row[1]} {size}", (0, None)) for size in SIZES)
-    cells = (f" {told(here)} / {told(rust)} |" if rust else " |" for here, rust in pairs)
+    pairs = (found.get(f"{row[1]} {size}", (0, None, None)) for size in SIZES)
+    cells = (f" {told(here)} / {told(rust)} |" if rust else " |" for here, rust, _ in pairs)
     return f"| `{row[1]}` |" + "".join(cells)
 
 
@@ -57,13 +74,49 @@ def chunk_line(line, found):
     for name in ("read_older", "write_older"):
         cases = [found.get(f"{name} 10000000 {chunks}") for chunks in CHUNKS]
         if all(cases):
-            line = re.sub(rf"(`{name}`) [\d., ]+ ns", r"\1 " + ", ".join(told(here) for here, _ in cases) + " ns", line)
+            line = re.sub(rf"(`{name}`) [\d., ]+ ns", r"\1 " + ", ".join(told(case[0]) for case in cases) + " ns", line)
     return line
 
 
-def filled(line, found):
-    """A line of the page with its new figures."""
-    return chunk_line(size_row(loop_row(line, found), found), found)
+def program_row(line, machines):
+    """A row of the table of whole programs: times with memory, and both ratios, of each machine."""
+    row = re.match(r"(\| `([a-z][a-z0-9 ]*)`, [^|]*\|)(?: [^|]*\||\|)+$", line)
+    if not row:
+        return line
+    cells = []
+    for found in machines:
+        case = found.get(f"lines {row[2]}")
+        cells += [f" {told(case[i])} ms, {told(case[3 + i])} MiB |" for i in (0, 1)] if case else [" |", " |"]
+        cells += [f" {case[2]:.2f}, {case[5]:.2f} |" if case else " |"]
+    return row[1] + "".join(cells)
+
+
+def filled(line, machines):
+    """A line of the page with its figures."""
+    older = next((found for found in machines if "read_older 10000000 1" in found), {})
+    return program_row(chunk_line(size_row(loop_row(line, machines), machines[0]), older), machines)
+
+
+def ratios_of(page, machines):
+    """The ratio of each loop of the page, on the first machine with both of its times."""
+    timed = {}
+    for loop in re.findall(r"^\| `(\w+)`: ", page, re.M):
+        case = next((found[loop] for found in machines if loop in found and found[loop][1] is not None), None)
+        if case:
+            timed[loop] = case
+    return timed
+
+
+def summed_up(text, timed):
+    """README with the numbers of its sentence on speed."""
+    ratios = sorted(case[2] for case in timed.values())
+    least, next_to_last, last = f"{ratios[0]:.2f}", f"{ratios[-2]:.2f}", f"{ratios[-1]:.0f}"
+    numbers = (len(ratios) - 1, len(ratios), least, next_to_last, last, f"{statistics.median(ratios):.2f}")
+    form = r"(\d+) of \[(\d+) loops\]\S+ take ([\d.]+) to ([\d.]+) .*?takes (\d+) times .*?median is (\d\.\d+)"
+    found = re.search(form, text, re.DOTALL)
+    for i in range(6, 0, -1) if found else ():
+        text = text[: found.start(i)] + str(numbers[i - 1]) + text[found.end(i) :]
+    return text
 
 
 def text(x, y, words, anchor="start", colour=TEXT, size=12):
@@ -99,7 +152,7 @@ def ratios(loops, found):
         shapes += [line(x(ratio), top - 8, x(ratio), bottom, TEXT if ratio == 1 else GRID)]
         shapes += [text(x(ratio), top - 14, f"{ratio:g}", "middle")]
     for i, loop in enumerate(loops):
-        ratio, y = found[loop][0] / found[loop][1], top + step * i
+        ratio, y = found[loop][2], top + step * i
         low, high = sorted((x(1), x(ratio)))
         colour = HERE if ratio <= 1 else RUST
         shapes += [text(left - 10, y + 12, loop, "end")]
@@ -111,7 +164,7 @@ def ratios(loops, found):
 def panel(name, found, left, top):
     """One loop's times, here and in the Rust crate, over its sizes; both scales are by tens."""
     wide, high = 230, 150
-    points = [(size, *found[f"{name} {size}"]) for size in SIZES if f"{name} {size}" in found]
+    points = [(size, *found[f"{name} {size}"][:2]) for size in SIZES if f"{name} {size}" in found]
     times = [time for point in points for time in point[1:]]
     low, top_power = math.floor(math.log10(min(times))), math.ceil(math.log10(max(times)))
 
@@ -142,14 +195,27 @@ def costs(series, found):
     return svg(920, 60 + (len(series) + 2) // 3 * 215 - 20, "Time of an operation against the number of values", shapes)
 
 
-def main(words):
-    found = measured(pathlib.Path(words[0] if words else TOP / "bench" / "measured.txt").read_text().split("\n"))
-    page = "\n".join(filled(line, found) for line in PAGE.read_text().split("\n"))
-    PAGE.write_text(page)
-    loops = [loop for loop in re.findall(r"^\| `(\w+)`: ", page, re.M) if found.get(loop, (0, None))[1]]
-    series = [name for name in re.findall(r"^\| `(\w+)` \|.* / ", page, re.M) if found.get(f"{name} {SIZES[0]}", (0, None))[1]]
-    (TOP / "docs" / "loops.svg").write_text(ratios(loops, found))
-    (TOP / "docs" / "sizes.svg").write_text(costs(series, found))
+def main():
+    machines = [measured(name) for name in MEASURED]
+    page = "\n".join(filled(line, machines) for line in PAGE.read_text().split("\n"))
+    timed = ratios_of(page, machines)
+    series = [name for name in re.findall(r"^\| `(\w+)` \|.* / ", page, re.M) if f"{name} {SIZES[0]}" in machines[0]]
+    wanted = {
+        PAGE: page,
+        README: summed_up(README.read_text(), timed),
+        TOP / "docs" / "loops.svg": ratios(list(timed), timed),
+        TOP / "docs" / "sizes.svg": costs(series, machines[0]),
+    }
+    differ = False
+    for file, text in wanted.items():
+        if "--write" in sys.argv[1:]:
+            file.write_text(text)
+            continue
+        for at, (line, other) in enumerate(zip(file.read_text().split("\n"), text.split("\n")), 1):
+            if line != other:
+                print(f"{file.relative_to(TOP)}:{at}: {line}\n    as measured: {other}")
+                differ = True
+    return int(differ)
 
 
-main(sys.argv[1:])
+sys.exit(main())

@@ -1,6 +1,6 @@
 #!/bin/bash
-# Measures cost against size, with loops.sh and calls.sh: vectors and maps of ten thousand to ten million values,
-# blocks of eight bytes in one of up to forty chunks, and lines of calls.
+# Measures cost against size, with loops.sh: vectors and maps of ten thousand to ten million values, and blocks of eight
+# bytes in one of up to forty chunks.
 set -euo pipefail
 here=$(dirname "$(readlink -f "$0")")
 loops=()
@@ -20,4 +20,3 @@ for name in read_older write_older; do
     done
 done
 "$here/loops.sh" "${loops[@]}"
-"$here/calls.sh" 1 10000 100000 1000000

@@ -892,7 +892,7 @@ pub fn main(words: &[String]) -> i32 {
         totals.sort_unstable();
         let (best, median) = (totals[0], totals[runs / 2]);
         println!(
-            "{:<21} {:>8.3} ns/op  total {:>9.3} ms  median {:>9.3} ms  ops {ops}  number {number}  ({})",
+            "{:<21} {:>8.3} ns/op  total {:>12.6} ms  median {:>9.3} ms  ops {ops}  number {number}  ({})",
             bench.name,
             best as f64 / ops as f64,
             best as f64 / 1e6,
