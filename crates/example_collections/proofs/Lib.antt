@@ -5,3 +5,4 @@ mod BranchLemmas
 mod BesideLemmas
 mod ByteLemmas
 mod FillingLemmas
+mod RowLemmas

@@ -8,7 +8,7 @@ ghost use Rattle.arena_items.specs.Room.{SamePlaces};
 ghost use Rattle.arena_text.specs.Growth.{amortised_growth};
 ghost use Rattle.arena_text.specs.Builders.{IsBuilderIn, builder_bytes};
 ghost use Rattle.arena_text.specs.Changes.{Grows, Makes};
-ghost use Rattle.example_collections.specs.Texts.{IsRow, IsRefusedRow};
+ghost use Rattle.example_collections.specs.Texts.{IsRow, IsRefusedRow, PushesRow};
 
 use arena_chunks::{Allocator, ChunkSource};
 use arena_items::laws::frame_law;
@@ -38,9 +38,11 @@ pub fn rule_of<C: ChunkSource>(byte: u8, n: u64, a: &mut Allocator<C>) -> Grown<
 /// # Errors
 ///
 /// Those of `push_ascii_byte`, for one of the bytes. The text so far stays in the arena.
+#[tactic(auto, using(crate::proofs::RowLemmas::row_none))]
 pub fn row_of<C: ChunkSource>(byte: u8, n: u64, a: &mut Allocator<C>) -> Grown<StringBuilder>
     requires { byte < 128 }
     ensures row { IfOk result (IsRow a.old a.new byte n) }
+    ensures pushes { IfOk result (PushesRow a.old a.new byte n) }
     ensures refused { IfErr result (IsRefusedRow a.old a.new byte n) }
     ensures beside { Frame a.old.memory a.new.memory [] [] }
 {
