@@ -194,17 +194,30 @@ impl<const M: usize> Arena<M> {
     }
 
     /// Returns an arena with this least alignment and a chunk of at least this many bytes, or an error without memory.
+    ///
+    /// ```
+    /// use arena_bindings::Arena;
+    ///
+    /// assert!(Arena::<4>::try_with_min_align_and_capacity(1000).is_ok());
+    /// assert!(Arena::<4>::try_with_min_align_and_capacity(usize::MAX).is_err());
+    /// ```
     pub fn try_with_min_align_and_capacity(capacity: usize) -> Result<Self, AllocError> {
         let arena = Self::with_min_align();
         if capacity > 0 {
             let (capacity, mut chunk) = (capacity as u64, Chunk::default());
-            // SAFETY: the library takes any numbers, and the pointer is to a variable of this call.
-            let code = unsafe { ffi::arena_cursor_chunk(capacity, capacity, M as u64, &mut chunk) };
+            let code = ffi::arena_cursor_chunk(capacity, capacity, M as u64, &mut chunk);
             if code != DONE || !arena.add(chunk) {
                 return Err(AllocError);
             }
         }
         Ok(arena)
+    }
+
+    // Calls the library with the arena's cursor.
+    #[inline(always)]
+    pub(crate) fn cursor<R>(&self, call: impl FnOnce(&mut Cursor) -> R) -> R {
+        // SAFETY: nothing else refers to the cursor, and none of the closures in this crate uses the arena.
+        call(unsafe { &mut *self.at.as_ptr() })
     }
 
     // Asks for a chunk, which becomes the newest. Returns whether it was granted.
@@ -224,9 +237,7 @@ impl<const M: usize> Arena<M> {
             unsafe { newest.as_ref() }.at.set((at.start, at.cursor));
         }
         let start = base.expose_provenance() as u64;
-        // SAFETY: the library takes any numbers, and the pointer is to the arena's own cursor.
-        let code =
-            unsafe { ffi::arena_cursor_enter(self.at.as_ptr(), start, chunk.size, M as u64) };
+        let code = self.cursor(|at| ffi::arena_cursor_enter(at, start, chunk.size, M as u64));
         debug_assert_eq!(code, DONE);
         // SAFETY: the footer is in the 48 bytes behind the data, and aligned, since base and size are multiples of 16.
         unsafe {
@@ -281,10 +292,10 @@ impl<const M: usize> Arena<M> {
         })
     }
 
+    // How many bytes of a chunk there are.
     pub(crate) fn counts(at: &Cursor) -> Counts {
         let mut counts = Counts::default();
-        // SAFETY: the library takes any numbers, and the pointers are to variables of the caller and of this call.
-        let code = unsafe { ffi::arena_cursor_count(at, &mut counts) };
+        let code = ffi::arena_cursor_count(at, &mut counts);
         debug_assert_eq!(code, DONE);
         counts
     }
@@ -391,8 +402,7 @@ impl<const M: usize> Arena<M> {
             let older = unsafe { newest.as_ref() }.older.replace(None);
             self.free(older, None);
         }
-        // SAFETY: the library takes any numbers, and the pointer is to the arena's own cursor.
-        let code = unsafe { ffi::arena_cursor_reset(self.at.as_ptr()) };
+        let code = self.cursor(|at| ffi::arena_cursor_reset(at));
         debug_assert_eq!(code, DONE);
     }
 
@@ -419,15 +429,23 @@ impl<const M: usize> Arena<M> {
     /// # Safety
     ///
     /// The checkpoint is of this arena, which wasn't reset since, or taken back to an earlier one.
+    ///
+    /// ```
+    /// let mut arena = arena_bindings::Arena::new();
+    /// let mark = arena.checkpoint();
+    /// arena.alloc(1u8);
+    /// // SAFETY: the checkpoint is of this arena, which wasn't reset.
+    /// unsafe { arena.back(mark) };
+    /// assert_eq!(arena.allocated_bytes(), 0);
+    /// ```
     pub unsafe fn back(&mut self, mark: Checkpoint) {
         if self.newest.get() != mark.newest {
             self.free(self.newest.get(), mark.newest);
             self.newest.set(mark.newest);
             self.at.set(mark.newest.map_or(Self::NO_CHUNK, Self::left));
         }
-        // SAFETY: the library takes any numbers, and the pointer is to the arena's own cursor. If blocks from before the
-        // checkpoint were given back, the cursor is above it, and stays there.
-        let _ = unsafe { ffi::arena_cursor_back(self.at.as_ptr(), mark.cursor) };
+        // If blocks from before the checkpoint were given back, the cursor is above it, and stays there.
+        let _ = self.cursor(|at| ffi::arena_cursor_back(at, mark.cursor));
     }
 
     /// Runs `work` with this arena, and then frees all that it allocated, also if it panics.
