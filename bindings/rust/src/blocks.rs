@@ -1,6 +1,7 @@
 //! Blocks of an arena without a type: the library says where each is, and this file moves bytes.
 
-use crate::arena::{AllocError, Arena, addr_of, pointer};
+use crate::arena::{AllocError, Arena};
+use crate::chunks::{addr_of, pointer};
 use crate::ffi::{self, Chunk, DONE, ELSEWHERE, NO_PLACE, Resize, STAYS};
 use std::alloc::{Layout, handle_alloc_error};
 use std::ptr::NonNull;

@@ -19,6 +19,7 @@
 mod allocator;
 mod arena;
 mod blocks;
+mod chunks;
 mod ffi;
 #[cfg(feature = "oracle")]
 mod heap;
