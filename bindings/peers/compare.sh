@@ -27,13 +27,14 @@ plants() {
 
 # counted ROUNDS LOOP: the instructions of a run.
 counted() {
-    valgrind --tool=callgrind --callgrind-out-file=/dev/null target/release/speed "$@" 2>&1 >/dev/null | sed -n 's/.*Collected : //p'
+    valgrind --tool=callgrind --callgrind-out-file=/dev/null "$speed" "$@" 2>&1 >/dev/null | sed -n 's/.*Collected : //p'
 }
 
 # Each round has 20,000 operations.
 instructions() {
+    local speed=${CARGO_TARGET_DIR:-target}/release/speed line
     cargo build -q --release -p rig --bin speed
-    target/release/speed 1 | while read -r line; do
+    "$speed" 1 | while read -r line; do
         echo "${line:0:37} $((($(counted 12 "${line:0:37}") - $(counted 2 "${line:0:37}")) / 20000))" | sed 's/.$/.&/'
     done
 }
