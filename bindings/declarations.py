@@ -7,7 +7,7 @@ import re
 import sys
 
 FUNCTION_IN_C = re.compile(r"^(uint32_t|uint64_t) (\w+)\(([^)]*)\);", re.M)
-FUNCTION_IN_RUST = re.compile(r'(?:extern "C"|^   )(?: pub\(crate\))? fn (arena_\w+)\(([^)]*)\)\s*-> (u32|u64)', re.M)
+FUNCTION_IN_RUST = re.compile(r'(?:extern "C"|^   )(?: pub\(crate\))?(?: safe)? fn (arena_\w+)\(([^)]*)\)\s*-> (u32|u64)', re.M)
 STRUCT = re.compile(r"(?:#\[repr\(C\)\]\n(?:#\[.*\]\n)*(?:pub(?:\(crate\))? )?|^)struct (\w+) \{([^}]*)\}", re.M)
 C_TYPES = {"uint8_t": "u8", "uint32_t": "u32", "uint64_t": "u64", "size_t": "usize"}
 

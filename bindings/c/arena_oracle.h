@@ -1,7 +1,7 @@
 /* arena_oracle: runs of calls over a proved bump arena, for C.
  *
- * Link libarena_oracle.a, and the kit's liblibc_c.a, through which it calls malloc, realloc and free. Each function reads
- * bytes and numbers, writes bytes and numbers, and keeps nothing: calls on several threads don't affect one another.
+ * Link libarena_oracle.a and heap.c, through which it calls malloc, realloc and free. Each function reads bytes and numbers,
+ * writes bytes and numbers, and keeps nothing: calls on several threads don't affect one another.
  *
  * Each pointer is to as many values as its length says. It isn't null, even where the length is 0, and is aligned for its
  * type. `out` and `report` overlap nothing else that is passed. malloc, realloc and free belong to one allocator. No call

@@ -1,35 +1,18 @@
 #!/bin/bash
 # Builds the page into the folder `made`: the module arena.wasm, and the page's files next to it.
 #
-# The kit compiles no library for wasm64 that takes memory. So the proved library is built for x86-64 by a copy of the kit
-# whose clang first keeps the intermediate code that it is given, and that code is compiled for wasm64: both have 64-bit
-# pointers and the same alignments. The kit makes no claim about this.
+# The kit compiles no library for wasm64 that takes memory. So the proved library is built for x86-64, and the intermediate code
+# that clang is given for that is compiled for wasm64: both have 64-bit pointers and the same alignments. The kit makes no claim
+# about this.
 set -euo pipefail
 here=$(dirname "$(readlink -f "$0")")
-kit=${RATTLE_KIT:-$(dirname "$(dirname "$(readlink -f "$(command -v rt)")")")}
+kit=$(dirname "$(dirname "$(readlink -f "$(command -v rt)")")")
 clang=$kit/toolchain/bin/clang
 made=$here/made
 work=$(mktemp -d)
 trap 'rm -rf "$work"' EXIT
-mkdir -p "$made" "$work/tree"
-
-# A copy of the kit by links, but for its commands and clang.
-cp -rs "$kit" "$work/kit"
-rm -r "$work/kit/bin" "$work/kit/toolchain/bin/clang"
-cp -r "$kit/bin" "$work/kit"
-cat >"$work/kit/toolchain/bin/clang" <<EOF
-#!/bin/bash
-for word; do
-    case \$word in *.bc) cp "\$word" "$work/module.bc" ;; esac
-done
-exec -a "\$0" "$clang" "\$@"
-EOF
-chmod +x "$work/kit/toolchain/bin/clang"
-
-# The library, in a copy of the tree with the libraries that are built there already.
-tar -C "$here/../.." -cf - --exclude='out/incremental' crates crates.txt HANDLES | tar -xf - -C "$work/tree"
-(cd "$work/tree/crates/arena_oracle" && "$work/kit/bin/rt" lib) >&2
-[ -s "$work/module.bc" ] || { echo 'the kit gave clang no intermediate code' >&2; exit 1; }
+mkdir -p "$made"
+"$here/../lib/build.sh" --bitcode "$work/module.bc" arena_oracle
 
 cd "$work"
 target=(--target=wasm64-unknown-unknown -mcpu=mvp -mbulk-memory -mbulk-memory-opt -msign-ext -mmutable-globals -mnontrapping-fptoint

@@ -1,47 +1,49 @@
 #!/bin/bash
 # compare.sh OUT WORDS..: compares the growing arena with the real crate, in the folder that run.sh filled.
 #     random RUNS [SEED]    random runs of calls
-#     fuzz SECONDS          libFuzzer, led by the coverage of both; the corpus is in OUT/corpus
+#     fuzz SECONDS          libFuzzer; the corpus is in OUT/fuzz/corpus
 #     plants                three wrong libraries, each of which must be found
 #     speed [ROUNDS]        nanoseconds an operation, by turns with bumpalo and the real crate
+#     instructions          instructions an operation of the same loops, by valgrind
 set -euo pipefail
 here=$(dirname "$(readlink -f "$0")")
+. "$here/../../bench/fuzz/common.sh"
 cd "$1"
 export CARGO_NET_OFFLINE=true
 
 plants() {
-    local plant folder output status=0
+    local plant folder status=0
     for plant in 1 2 3; do
         folder=$PWD/plants/$plant
         mkdir -p "$folder"
         cc -O2 -fPIC -DPLANT="$plant" -c -o "$folder/by_hand.o" "$here/../c/by_hand.c"
         rm -f "$folder/libarena_cursor.a"
         ar rcs "$folder/libarena_cursor.a" "$folder/by_hand.o"
-        output=$(ARENA_LIBS=$folder cargo run -q --release --target-dir plants/target -p rig --bin differ 20000 1 2>&1) && true
-        case $output in
-        *MIN_ALIGN*) echo "ok   plant $plant is found: $(grep -o 'call [0-9]*: .*' <<<"$output" | head -1)" ;;
-        *) echo "FAIL plant $plant isn't found: $output" && status=1 ;;
-        esac
+        ARENA_LIBS=$folder found "plant $plant" cargo run -q --release --target-dir plants/target -p rig --bin differ 20000 1 ||
+            status=1
     done
     return $status
 }
 
-fuzz() {
-    local runtime flags target=x86_64-unknown-linux-gnu
-    runtime=$(find /usr/lib/llvm-*/ -name 'libclang_rt.fuzzer-x86_64.a' 2>/dev/null | sort -V | tail -1)
-    [ -n "$runtime" ] || { echo 'skip: there is no libFuzzer (Debian has it in libclang-rt-14-dev)'; return; }
-    flags="-Cpasses=sancov-module -Cllvm-args=-sanitizer-coverage-level=4 -Cllvm-args=-sanitizer-coverage-inline-8bit-counters"
-    flags="$flags -Cllvm-args=-sanitizer-coverage-pc-table -Cllvm-args=-sanitizer-coverage-trace-compares"
-    RUSTFLAGS="$flags -Clink-arg=$runtime -Clink-arg=-lstdc++ -Clink-dead-code" \
-        cargo build -q --release --features fuzz --target $target --target-dir fuzz -p rig --bin differ
-    mkdir -p corpus
-    fuzz/$target/release/differ -max_total_time="$1" -max_len=600 -artifact_prefix=fuzz/ corpus
+# counted ROUNDS LOOP: the instructions of a run.
+counted() {
+    valgrind --tool=callgrind --callgrind-out-file=/dev/null "$speed" "$@" 2>&1 >/dev/null | sed -n 's/.*Collected : //p'
+}
+
+# Each round has 20,000 operations.
+instructions() {
+    local speed=${CARGO_TARGET_DIR:-target}/release/speed line
+    cargo build -q --release -p rig --bin speed
+    "$speed" 1 | while read -r line; do
+        echo "${line:0:37} $((($(counted 12 "${line:0:37}") - $(counted 2 "${line:0:37}")) / 20000))" | sed 's/.$/.&/'
+    done
 }
 
 case ${2-} in
 random) cargo run -q --release -p rig --bin differ "$3" "${4-1}" ;;
-fuzz) fuzz "$3" ;;
+fuzz) fuzzed "$3" 600 fuzz -p rig --bin differ ;;
 plants) plants ;;
 speed) cargo run -q --release -p rig --bin speed "${3-300}" ;;
-*) echo 'usage: compare.sh OUT random RUNS [SEED] | fuzz SECONDS | plants | speed [ROUNDS]' >&2 && exit 1 ;;
+instructions) instructions ;;
+*) echo 'usage: compare.sh OUT random RUNS [SEED] | fuzz SECONDS | plants | speed [ROUNDS] | instructions' >&2 && exit 1 ;;
 esac

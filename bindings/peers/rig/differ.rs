@@ -250,7 +250,7 @@ fn compare<const M: usize>(capacity: usize, calls: &[Call], refuse: &[usize]) ->
     let real = run::<oxc_allocator::arena::Arena<M>>(capacity, calls, refuse);
     for (i, (a, b)) in ours.iter().zip(&real).enumerate() {
         if a != b {
-            println!("MIN_ALIGN {M}, capacity {capacity}, refuse {refuse:?}, call {i}: {:?}\nours {a:?}\nreal {b:?}", i.checked_sub(1).map(|i| calls[i]));
+            println!("DIFFER: MIN_ALIGN {M}, capacity {capacity}, refuse {refuse:?}, call {i}: {:?}\nours {a:?}\nreal {b:?}", i.checked_sub(1).map(|i| calls[i]));
             for c in &calls[..i] { println!("  {c:?}"); }
             if cfg!(feature = "fuzz") {
                 std::process::abort();
@@ -276,14 +276,14 @@ fn one_run(random: &mut Random) -> [usize; 3] {
         }
         let n = random.below(12) as usize;
         calls.push(match random.below(24) {
-            20..22 => Call::Half(n),
-            22..24 => Call::More(n, random.byte()),
             0..9 => Call::Alloc(n, random.layout(), random.byte()),
             9..12 => Call::Dealloc(n),
             12..16 => Call::Grow(n, random.layout(), random.byte()),
             16..19 => Call::Shrink(n, random.layout()),
-            _ if random.below(8) == 0 => Call::Reset,
-            _ => Call::Dealloc(n),
+            19 if random.below(8) == 0 => Call::Reset,
+            19 => Call::Dealloc(n),
+            20..22 => Call::Half(n),
+            _ => Call::More(n, random.byte()),
         });
     }
     match align {

@@ -1,4 +1,5 @@
 //! Nanoseconds an operation, by turns: the growing arena over the proved library, bumpalo 3.12 and oxc_allocator 0.157.
+//! `speed ROUNDS LOOP` runs one loop alone, which is named as in what `speed` prints.
 use std::hint::black_box;
 use std::time::Instant;
 
@@ -61,7 +62,8 @@ macro_rules! oxc_vec {
 }
 
 fn main() {
-    let rounds: usize = std::env::args().nth(1).map_or(300, |w| w.parse().unwrap());
+    let mut words = std::env::args().skip(1);
+    let rounds: usize = words.next().map_or(300, |w| w.parse().unwrap());
     let mut loops: Vec<(&str, &str, Box<dyn FnMut() -> f64>, f64)> = Vec::new();
     let mut add = |what, who, f| loops.push((what, who, f, f64::MAX));
     add("alloc u64", "ours", values!(arena_bindings::Arena::new()));
@@ -76,13 +78,16 @@ fn main() {
     add("oxc's Vec, 1000 pushes", "oxc", oxc_vec!(oxc_allocator, 1000));
     add("oxc's Vec, 8 pushes", "ours", oxc_vec!(oxc_over, 8));
     add("oxc's Vec, 8 pushes", "oxc", oxc_vec!(oxc_allocator, 8));
+    if let Some(only) = words.next() {
+        loops.retain(|l| format!("{:28} {:8}", l.0, l.1) == only);
+    }
     for _ in 0..rounds {
         for (_, _, f, least) in &mut loops {
             *least = least.min(f());
         }
     }
     for (what, who, _, least) in &loops {
-        let ours = loops.iter().find(|l| l.0 == *what && l.1 == "ours").unwrap().3;
+        let ours = loops.iter().find(|l| l.0 == *what && l.1 == "ours").map_or(*least, |l| l.3);
         println!("{what:28} {who:8} {least:7.3} ns   ours/this {:.2}", ours / least);
     }
 }

@@ -1,12 +1,11 @@
-//! A bump arena that grows. Where its blocks lie, and how large its chunks are, comes from the proved library; this file
-//! asks the global allocator for chunks, keeps them in a list, and frees them.
+//! A bump arena that grows. Where its blocks lie, and how large its chunks are, comes from the proved library.
 
-use crate::ffi::{self, Chunk, Counts, Cursor, DONE};
-use std::alloc::{Layout, alloc, dealloc};
+use crate::chunks::{Footer, pointer};
+use crate::ffi::{self, Chunk, Cursor, DONE};
 use std::cell::Cell;
 use std::fmt;
 use std::mem::MaybeUninit;
-use std::ptr::{self, NonNull};
+use std::ptr::NonNull;
 
 /// There is no memory, or no layout is that large.
 #[derive(Clone, Copy, Debug, PartialEq, Eq)]
@@ -20,17 +19,6 @@ impl fmt::Display for AllocError {
 
 impl std::error::Error for AllocError {}
 
-// In the 48 bytes behind the data of each chunk.
-#[repr(C, align(16))]
-pub(crate) struct Footer {
-    // Where the chunk begins, and where its cursor was when it was left for a newer one.
-    at: Cell<(u64, u64)>,
-    // The bytes and the alignment that it was allocated with.
-    layout: Layout,
-    older: Cell<Option<NonNull<Footer>>>,
-}
-
-const _: () = assert!(size_of::<Footer>() <= 48);
 const _: () = assert!(size_of::<usize>() == 8, "the library counts in 64 bits");
 
 /// A bump arena that grows by chunks of the global allocator. Values in it live until it is reset. None is dropped.
@@ -66,7 +54,7 @@ const _: () = assert!(size_of::<usize>() == 8, "the library counts in 64 bits");
 /// ```
 pub struct Arena<const MIN_ALIGN: usize = 1> {
     pub(crate) at: Cell<Cursor>,
-    newest: Cell<Option<NonNull<Footer>>>,
+    pub(crate) newest: Cell<Option<NonNull<Footer>>>,
 }
 
 // SAFETY: all references into the chunks borrow the arena, which can be sent only when there are none.
@@ -135,18 +123,6 @@ pub(crate) fn out_of_memory() -> ! {
     panic!("out of memory")
 }
 
-// The pointer to an address that the library returned, in a chunk whose provenance was exposed.
-#[inline(always)]
-pub(crate) fn pointer(addr: u64) -> NonNull<u8> {
-    // SAFETY: the library returns no address below the start of a chunk, which is above 0.
-    unsafe { NonNull::new_unchecked(ptr::with_exposed_provenance_mut(addr as usize)) }
-}
-
-#[inline(always)]
-pub(crate) fn addr_of(block: NonNull<u8>) -> u64 {
-    block.as_ptr().addr() as u64
-}
-
 impl<const M: usize> Arena<M> {
     /// The least alignment of blocks.
     pub const MIN_ALIGN: usize = {
@@ -194,12 +170,18 @@ impl<const M: usize> Arena<M> {
     }
 
     /// Returns an arena with this least alignment and a chunk of at least this many bytes, or an error without memory.
+    ///
+    /// ```
+    /// use arena_bindings::Arena;
+    ///
+    /// assert!(Arena::<4>::try_with_min_align_and_capacity(1000).is_ok());
+    /// assert!(Arena::<4>::try_with_min_align_and_capacity(usize::MAX).is_err());
+    /// ```
     pub fn try_with_min_align_and_capacity(capacity: usize) -> Result<Self, AllocError> {
         let arena = Self::with_min_align();
         if capacity > 0 {
             let (capacity, mut chunk) = (capacity as u64, Chunk::default());
-            // SAFETY: the library takes any numbers, and the pointer is to a variable of this call.
-            let code = unsafe { ffi::arena_cursor_chunk(capacity, capacity, M as u64, &mut chunk) };
+            let code = ffi::arena_cursor_chunk(capacity, capacity, M as u64, &mut chunk);
             if code != DONE || !arena.add(chunk) {
                 return Err(AllocError);
             }
@@ -207,86 +189,11 @@ impl<const M: usize> Arena<M> {
         Ok(arena)
     }
 
-    // Asks for a chunk, which becomes the newest. Returns whether it was granted.
-    pub(crate) fn add(&self, chunk: Chunk) -> bool {
-        // SAFETY: the library wrote the request with code 0: it is proved to be a layout, of at least 48 bytes.
-        let (layout, base) = unsafe {
-            let layout =
-                Layout::from_size_align_unchecked(chunk.bytes as usize, chunk.align as usize);
-            (layout, alloc(layout))
-        };
-        if base.is_null() {
-            return false;
-        }
-        if let Some(newest) = self.newest.get() {
-            let at = self.at.get();
-            // SAFETY: the newest chunk lives as long as the arena.
-            unsafe { newest.as_ref() }.at.set((at.start, at.cursor));
-        }
-        let start = base.expose_provenance() as u64;
-        // SAFETY: the library takes any numbers, and the pointer is to the arena's own cursor.
-        let code =
-            unsafe { ffi::arena_cursor_enter(self.at.as_ptr(), start, chunk.size, M as u64) };
-        debug_assert_eq!(code, DONE);
-        // SAFETY: the footer is in the 48 bytes behind the data, and aligned, since base and size are multiples of 16.
-        unsafe {
-            let footer = base.add(chunk.size as usize).cast::<Footer>();
-            footer.write(Footer {
-                at: Cell::new((start, start + chunk.size)),
-                layout,
-                older: Cell::new(self.newest.get()),
-            });
-            self.newest.set(Some(NonNull::new_unchecked(footer)));
-        }
-        true
-    }
-
-    // Frees the chunks from this one on, up to one that stays.
-    fn free(&self, mut chunk: Option<NonNull<Footer>>, kept: Option<NonNull<Footer>>) {
-        while chunk != kept
-            && let Some(footer) = chunk
-        {
-            // SAFETY: the footer is that of a chunk of this arena. It is read before the chunk is freed.
-            unsafe {
-                let (base, layout) = (footer.as_ref().at.get().0, footer.as_ref().layout);
-                chunk = footer.as_ref().older.get();
-                dealloc(pointer(base).as_ptr(), layout);
-            }
-        }
-    }
-
-    // The cursor in a chunk, as it was when the chunk was left.
-    fn left(footer: NonNull<Footer>) -> Cursor {
-        // SAFETY: the footer is that of a chunk of this arena.
-        let (start, cursor) = unsafe { footer.as_ref() }.at.get();
-        // The data ends where the footer begins.
-        let end = footer.addr().get() as u64;
-        Cursor {
-            start,
-            cursor,
-            end,
-            min_align: M as u64,
-        }
-    }
-
-    // The cursors of all chunks, newest first.
-    fn cursors(&self) -> impl Iterator<Item = Cursor> {
-        let mut chunk = self.newest.get();
-        let mut newest = Some(self.at.get());
-        std::iter::from_fn(move || {
-            let footer = chunk?;
-            // SAFETY: the footer is that of a chunk of this arena.
-            chunk = unsafe { footer.as_ref() }.older.get();
-            Some(newest.take().unwrap_or_else(|| Self::left(footer)))
-        })
-    }
-
-    pub(crate) fn counts(at: &Cursor) -> Counts {
-        let mut counts = Counts::default();
-        // SAFETY: the library takes any numbers, and the pointers are to variables of the caller and of this call.
-        let code = unsafe { ffi::arena_cursor_count(at, &mut counts) };
-        debug_assert_eq!(code, DONE);
-        counts
+    // Calls the library with the arena's cursor.
+    #[inline(always)]
+    pub(crate) fn cursor<R>(&self, call: impl FnOnce(&mut Cursor) -> R) -> R {
+        // SAFETY: nothing else refers to the cursor, and none of the closures in this crate uses the arena.
+        call(unsafe { &mut *self.at.as_ptr() })
     }
 
     /// Returns how many bytes are in use, with the padding between blocks.
@@ -391,8 +298,7 @@ impl<const M: usize> Arena<M> {
             let older = unsafe { newest.as_ref() }.older.replace(None);
             self.free(older, None);
         }
-        // SAFETY: the library takes any numbers, and the pointer is to the arena's own cursor.
-        let code = unsafe { ffi::arena_cursor_reset(self.at.as_ptr()) };
+        let code = self.cursor(|at| ffi::arena_cursor_reset(at));
         debug_assert_eq!(code, DONE);
     }
 
@@ -419,15 +325,23 @@ impl<const M: usize> Arena<M> {
     /// # Safety
     ///
     /// The checkpoint is of this arena, which wasn't reset since, or taken back to an earlier one.
+    ///
+    /// ```
+    /// let mut arena = arena_bindings::Arena::new();
+    /// let mark = arena.checkpoint();
+    /// arena.alloc(1u8);
+    /// // SAFETY: the checkpoint is of this arena, which wasn't reset.
+    /// unsafe { arena.back(mark) };
+    /// assert_eq!(arena.allocated_bytes(), 0);
+    /// ```
     pub unsafe fn back(&mut self, mark: Checkpoint) {
         if self.newest.get() != mark.newest {
             self.free(self.newest.get(), mark.newest);
             self.newest.set(mark.newest);
             self.at.set(mark.newest.map_or(Self::NO_CHUNK, Self::left));
         }
-        // SAFETY: the library takes any numbers, and the pointer is to the arena's own cursor. If blocks from before the
-        // checkpoint were given back, the cursor is above it, and stays there.
-        let _ = unsafe { ffi::arena_cursor_back(self.at.as_ptr(), mark.cursor) };
+        // If blocks from before the checkpoint were given back, the cursor is above it, and stays there.
+        let _ = self.cursor(|at| ffi::arena_cursor_back(at, mark.cursor));
     }
 
     /// Runs `work` with this arena, and then frees all that it allocated, also if it panics.
@@ -448,11 +362,5 @@ impl<const M: usize> Arena<M> {
         let mark = self.checkpoint();
         let back = Back(self, mark);
         work(back.0)
-    }
-}
-
-impl<const M: usize> Drop for Arena<M> {
-    fn drop(&mut self) {
-        self.free(self.newest.get(), None);
     }
 }

@@ -1,7 +1,8 @@
 //! Blocks of an arena without a type: the library says where each is, and this file moves bytes.
 
-use crate::arena::{AllocError, Arena, addr_of, pointer};
-use crate::ffi::{self, Chunk, DONE, ELSEWHERE, NO_PLACE, STAYS};
+use crate::arena::{AllocError, Arena};
+use crate::chunks::{addr_of, pointer};
+use crate::ffi::{self, Chunk, DONE, ELSEWHERE, NO_PLACE, Resize, STAYS};
 use std::alloc::{Layout, handle_alloc_error};
 use std::ptr::NonNull;
 
@@ -10,8 +11,7 @@ impl<const M: usize> Arena<M> {
     #[inline(always)]
     fn find(&self, size: u64, align: u64) -> u64 {
         let at = self.at.get();
-        // SAFETY: the library takes any numbers.
-        unsafe { ffi::arena_cursor_find(at.start, at.cursor, size, align, M as u64) }
+        ffi::arena_cursor_find(at.start, at.cursor, size, align, M as u64)
     }
 
     // The same without a call. Debug builds compare the two.
@@ -38,8 +38,7 @@ impl<const M: usize> Arena<M> {
         if addr == 0 {
             return None;
         }
-        // SAFETY: the arena's own cursor, to which nothing else refers.
-        unsafe { (*self.at.as_ptr()).cursor = addr };
+        self.cursor(|at| at.cursor = addr);
         Some(pointer(addr))
     }
 
@@ -89,10 +88,7 @@ impl<const M: usize> Arena<M> {
         let newest = Self::counts(&self.at.get()).size;
         for refused in 0.. {
             let mut chunk = Chunk::default();
-            // SAFETY: the library takes any numbers, and the pointer is to a variable of this call.
-            let code =
-                unsafe { ffi::arena_cursor_next_chunk(newest, size, align, refused, &mut chunk) };
-            if code != DONE {
+            if ffi::arena_cursor_next_chunk(newest, size, align, refused, &mut chunk) != DONE {
                 break;
             }
             if self.add(chunk) {
@@ -108,15 +104,51 @@ impl<const M: usize> Arena<M> {
     /// # Safety
     ///
     /// The block is one of this arena, with this layout, and isn't used any more.
+    ///
+    /// ```
+    /// use std::alloc::Layout;
+    ///
+    /// let arena = arena_bindings::Arena::new();
+    /// let layout = Layout::new::<[u8; 100]>();
+    /// let block = arena.alloc_layout(layout);
+    /// // SAFETY: the block isn't used afterwards.
+    /// unsafe { arena.dealloc(block, layout) };
+    /// assert_eq!(arena.used_bytes(), 0);
+    /// ```
     #[inline]
     pub unsafe fn dealloc(&self, block: NonNull<u8>, layout: Layout) {
-        let (addr, size) = (addr_of(block), layout.size() as u64);
-        // SAFETY: the library takes any numbers, and the pointer is to the arena's own cursor. For a block of an older chunk
-        // nothing is to be done.
-        let _ = unsafe { ffi::arena_cursor_give_back(self.at.as_ptr(), addr, size) };
+        // For a block of an older chunk nothing is to be done.
+        let _ =
+            self.cursor(|at| ffi::arena_cursor_give_back(at, addr_of(block), layout.size() as u64));
     }
 
-    // A block in a chunk that may be new, with this many bytes of an old one.
+    // Resizes a block by the library, and moves as many of its bytes as both sizes have.
+    //
+    // SAFETY: for callers, as for `grow` or `shrink`.
+    #[inline(always)]
+    unsafe fn resize(
+        &self,
+        by: Resize,
+        block: NonNull<u8>,
+        from: Layout,
+        to: Layout,
+    ) -> Result<NonNull<u8>, AllocError> {
+        let mut addr = addr_of(block);
+        let (size, align) = (from.size() as u64, from.align() as u64);
+        let (new_size, new_align) = (to.size() as u64, to.align() as u64);
+        let kept = from.size().min(to.size());
+        let code = self.cursor(|at| by(at, &mut addr, size, align, new_size, new_align));
+        if code != DONE {
+            // SAFETY: both layouts have room for these bytes.
+            return unsafe { self.moved(code, block, to, kept) };
+        }
+        let new = pointer(addr);
+        // SAFETY: both blocks have room for the bytes, and may overlap.
+        unsafe { new.copy_from(block, kept) };
+        Ok(new)
+    }
+
+    // Finishes what the library didn't do in the newest chunk, with this many bytes of the old block.
     //
     // SAFETY: for callers, the old block and the new layout have room for these bytes.
     #[cold]
@@ -145,6 +177,20 @@ impl<const M: usize> Arena<M> {
     ///
     /// The block is one of this arena, with this layout, and isn't used any more but by what is returned. The new size is
     /// at least the old one.
+    ///
+    /// ```
+    /// use std::alloc::Layout;
+    ///
+    /// let arena = arena_bindings::Arena::new();
+    /// let (few, many) = (Layout::new::<[u8; 4]>(), Layout::new::<[u8; 40]>());
+    /// let block = arena.alloc_layout(few);
+    /// // SAFETY: the block has 4 bytes, and only what `grow` returns is used afterwards.
+    /// let bytes = unsafe {
+    ///     block.write_bytes(7, 4);
+    ///     arena.grow(block, few, many).unwrap().cast::<[u8; 4]>().read()
+    /// };
+    /// assert_eq!((bytes, arena.used_bytes()), ([7; 4], 40));
+    /// ```
     #[inline]
     pub unsafe fn grow(
         &self,
@@ -152,38 +198,39 @@ impl<const M: usize> Arena<M> {
         from: Layout,
         to: Layout,
     ) -> Result<NonNull<u8>, AllocError> {
-        let mut addr = addr_of(block);
-        let (size, align) = (from.size() as u64, from.align() as u64);
-        let (new_size, new_align) = (to.size() as u64, to.align() as u64);
         // The rule grows a block at the cursor by a place for the bytes that it lacks.
         #[cfg(feature = "fast")]
-        if new_align <= align && addr == self.at.get().cursor && new_size < 1 << 62 {
-            let more = new_size.next_multiple_of(M as u64) - size;
-            if let Some(new) = self.take(self.place(more, align)) {
+        if to.align() <= from.align()
+            && addr_of(block) == self.at.get().cursor
+            && to.size() < 1 << 62
+        {
+            let more = to.size().next_multiple_of(M) - from.size();
+            if let Some(new) = self.take(self.place(more as u64, from.align() as u64)) {
                 // SAFETY: both blocks have room for the bytes, and may overlap.
                 unsafe { new.copy_from(block, from.size()) };
                 return Ok(new);
             }
         }
-        let at = self.at.as_ptr();
-        // SAFETY: the library takes any numbers. The pointers are to the arena's own cursor and a variable of this call.
-        let code =
-            unsafe { ffi::arena_cursor_grow(at, &mut addr, size, align, new_size, new_align) };
-        if code != DONE {
-            // SAFETY: the old block has as many bytes, and the new one more.
-            return unsafe { self.moved(code, block, to, from.size()) };
-        }
-        let new = pointer(addr);
-        // SAFETY: both blocks have room for the bytes, and may overlap.
-        unsafe { new.copy_from(block, from.size()) };
-        Ok(new)
+        // SAFETY: as the caller says.
+        unsafe { self.resize(ffi::arena_cursor_grow, block, from, to) }
     }
 
-    /// Shrinks a block, with the bytes that it still has room for.
+    /// Shrinks a block, with the bytes that it still has room for. If that fails, the block is as it was.
     ///
     /// # Safety
     ///
-    /// As for `grow`; the new size is at most the old one.
+    /// As for [`Arena::grow`]; the new size is at most the old one.
+    ///
+    /// ```
+    /// use std::alloc::Layout;
+    ///
+    /// let arena = arena_bindings::Arena::new();
+    /// let (few, many) = (Layout::new::<[u8; 4]>(), Layout::new::<[u8; 40]>());
+    /// let block = arena.alloc_layout(many);
+    /// // SAFETY: the block has 40 bytes, and isn't used afterwards.
+    /// assert!(unsafe { arena.shrink(block, many, few) }.is_ok());
+    /// assert_eq!(arena.used_bytes(), 4);
+    /// ```
     #[inline]
     pub unsafe fn shrink(
         &self,
@@ -191,20 +238,7 @@ impl<const M: usize> Arena<M> {
         from: Layout,
         to: Layout,
     ) -> Result<NonNull<u8>, AllocError> {
-        let mut addr = addr_of(block);
-        let (size, align) = (from.size() as u64, from.align() as u64);
-        let (new_size, new_align) = (to.size() as u64, to.align() as u64);
-        let at = self.at.as_ptr();
-        // SAFETY: the library takes any numbers. The pointers are to the arena's own cursor and a variable of this call.
-        let code =
-            unsafe { ffi::arena_cursor_shrink(at, &mut addr, size, align, new_size, new_align) };
-        if code != DONE {
-            // SAFETY: the new block has as many bytes, and the old one more.
-            return unsafe { self.moved(code, block, to, to.size()) };
-        }
-        let new = pointer(addr);
-        // SAFETY: both blocks have room for the bytes, and may overlap.
-        unsafe { new.copy_from(block, to.size()) };
-        Ok(new)
+        // SAFETY: as the caller says.
+        unsafe { self.resize(ffi::arena_cursor_shrink, block, from, to) }
     }
 }

@@ -1,5 +1,4 @@
-//! The functions of the proved static library `arena_cursor`, as in bindings/c/arena_cursor.h. They compute numbers, take
-//! any, and keep nothing.
+//! The functions of the proved static library `arena_cursor`, as in bindings/c/arena_cursor.h.
 
 #[repr(C)]
 #[derive(Clone, Copy, Debug, PartialEq, Eq)]
@@ -35,43 +34,62 @@ pub(crate) const ELSEWHERE: u32 = 6;
 /// The block has no byte in the newest chunk, and stays.
 pub(crate) const STAYS: u32 = 7;
 
+/// `arena_cursor_grow` or `arena_cursor_shrink`.
+pub(crate) type Resize = extern "C" fn(&mut Cursor, &mut u64, u64, u64, u64, u64) -> u32;
+
+// SAFETY: the library takes any numbers, and only reads and writes what the references are to, which are as pointers in C. It
+// keeps nothing.
 unsafe extern "C" {
-    pub(crate) fn arena_cursor_find(
+    pub(crate) safe fn arena_cursor_find(
         start: u64,
         cursor: u64,
         size: u64,
         align: u64,
         min_align: u64,
     ) -> u64;
-    pub(crate) fn arena_cursor_place(at: *mut Cursor, size: u64, align: u64, addr: *mut u64)
-    -> u32;
-    pub(crate) fn arena_cursor_give_back(at: *mut Cursor, addr: u64, size: u64) -> u32;
-    pub(crate) fn arena_cursor_grow(
-        at: *mut Cursor,
-        addr: *mut u64,
+    pub(crate) safe fn arena_cursor_place(
+        at: &mut Cursor,
+        size: u64,
+        align: u64,
+        addr: &mut u64,
+    ) -> u32;
+    pub(crate) safe fn arena_cursor_give_back(at: &mut Cursor, addr: u64, size: u64) -> u32;
+    pub(crate) safe fn arena_cursor_grow(
+        at: &mut Cursor,
+        addr: &mut u64,
         size: u64,
         align: u64,
         new_size: u64,
         new_align: u64,
     ) -> u32;
-    pub(crate) fn arena_cursor_shrink(
-        at: *mut Cursor,
-        addr: *mut u64,
+    pub(crate) safe fn arena_cursor_shrink(
+        at: &mut Cursor,
+        addr: &mut u64,
         size: u64,
         align: u64,
         new_size: u64,
         new_align: u64,
     ) -> u32;
-    pub(crate) fn arena_cursor_back(at: *mut Cursor, mark: u64) -> u32;
-    pub(crate) fn arena_cursor_chunk(tried: u64, size: u64, align: u64, chunk: *mut Chunk) -> u32;
-    pub(crate) fn arena_cursor_next_chunk(
+    pub(crate) safe fn arena_cursor_back(at: &mut Cursor, mark: u64) -> u32;
+    pub(crate) safe fn arena_cursor_chunk(
+        tried: u64,
+        size: u64,
+        align: u64,
+        chunk: &mut Chunk,
+    ) -> u32;
+    pub(crate) safe fn arena_cursor_next_chunk(
         newest: u64,
         size: u64,
         align: u64,
         refused: u32,
-        chunk: *mut Chunk,
+        chunk: &mut Chunk,
     ) -> u32;
-    pub(crate) fn arena_cursor_enter(at: *mut Cursor, base: u64, size: u64, min_align: u64) -> u32;
-    pub(crate) fn arena_cursor_reset(at: *mut Cursor) -> u32;
-    pub(crate) fn arena_cursor_count(at: *const Cursor, counts: *mut Counts) -> u32;
+    pub(crate) safe fn arena_cursor_enter(
+        at: &mut Cursor,
+        base: u64,
+        size: u64,
+        min_align: u64,
+    ) -> u32;
+    pub(crate) safe fn arena_cursor_reset(at: &mut Cursor) -> u32;
+    pub(crate) safe fn arena_cursor_count(at: &Cursor, counts: &mut Counts) -> u32;
 }

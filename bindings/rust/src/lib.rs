@@ -19,6 +19,7 @@
 mod allocator;
 mod arena;
 mod blocks;
+mod chunks;
 mod ffi;
 #[cfg(feature = "oracle")]
 mod heap;
@@ -38,8 +39,7 @@ pub mod testing {
     /// Returns where a block is placed in a chunk that begins at `start`, below a cursor.
     pub fn place_at(start: usize, cursor: usize, size: usize, align: usize) -> Option<usize> {
         let [start, cursor, size, align] = [start, cursor, size, align].map(|n| n as u64);
-        // SAFETY: the library takes any numbers.
-        let addr = unsafe { crate::ffi::arena_cursor_find(start, cursor, size, align, 1) };
+        let addr = crate::ffi::arena_cursor_find(start, cursor, size, align, 1);
         (addr > 0).then_some(addr as usize)
     }
 }

@@ -161,16 +161,42 @@ impl Oracle {
     }
 
     /// Returns the replies to lines of calls.
+    ///
+    /// ```
+    /// use arena_bindings::{Limits, Oracle};
+    ///
+    /// let mut oracle = Oracle::default();
+    /// let limits = Limits { refuse: vec![1], ..Limits::default() };
+    /// let text = oracle.calls(b"alloc 0 5 1 104\n", &limits);
+    /// assert_eq!(text, Ok(&b"allocerr refused 1\n"[..]));
+    /// assert_eq!(oracle.refused, 1);
+    /// ```
     pub fn calls(&mut self, lines: &[u8], limits: &Limits) -> Result<&[u8], RunError> {
         self.over_lines(arena_oracle_calls, lines, limits)
     }
 
     /// Returns a picture of the arena after lines of calls, as SVG.
+    ///
+    /// ```
+    /// use arena_bindings::{Limits, Oracle};
+    ///
+    /// let mut oracle = Oracle::default();
+    /// let picture = oracle.draw(b"alloc 0 5 1 104\n", &Limits::default());
+    /// assert!(picture.unwrap().starts_with(b"<svg"));
+    /// ```
     pub fn draw(&mut self, lines: &[u8], limits: &Limits) -> Result<&[u8], RunError> {
         self.over_lines(arena_oracle_draw, lines, limits)
     }
 
     /// Returns the summary of `count` pseudo-random calls, generated from `start`.
+    ///
+    /// ```
+    /// use arena_bindings::{Limits, Oracle};
+    ///
+    /// let mut oracle = Oracle::default();
+    /// let summary = oracle.generate(1, 1000, &Limits::default());
+    /// assert!(summary.is_ok_and(|text| !text.is_empty()));
+    /// ```
     pub fn generate(&mut self, start: u64, count: u64, limits: &Limits) -> Result<&[u8], RunError> {
         let (budget, list) = (limits.budget, &limits.refuse);
         // SAFETY: as above.

@@ -5,7 +5,7 @@ use std::marker::PhantomData;
 use std::mem::{MaybeUninit, align_of, size_of};
 use std::ptr::NonNull;
 
-use crate::ffi::{self, Cursor};
+use crate::ffi::{self, Cursor, DONE};
 
 /// A bump arena over memory of the caller. Values in it live until the arena is reset. None is dropped.
 ///
@@ -50,6 +50,15 @@ pub struct Region<'m> {
 
 impl<'m> Region<'m> {
     /// Returns an empty arena over this memory.
+    ///
+    /// ```
+    /// use arena_bindings::Region;
+    /// use std::mem::MaybeUninit;
+    ///
+    /// let mut memory = [MaybeUninit::uninit(); 64];
+    /// let arena = Region::new(&mut memory);
+    /// assert_eq!(arena.used(), 0);
+    /// ```
     pub fn new(memory: &'m mut [MaybeUninit<u8>]) -> Region<'m> {
         let base = NonNull::from(&mut *memory).cast::<u8>();
         let start = base.addr().get() as u64;
@@ -68,12 +77,31 @@ impl<'m> Region<'m> {
     }
 
     /// Returns how many bytes are in use.
+    ///
+    /// ```
+    /// use arena_bindings::Region;
+    /// use std::mem::MaybeUninit;
+    ///
+    /// let mut memory = [MaybeUninit::uninit(); 64];
+    /// let arena = Region::new(&mut memory);
+    /// arena.alloc([0u8; 10]);
+    /// assert_eq!(arena.used(), 10);
+    /// ```
     pub fn used(&self) -> usize {
         let at = self.cursor.get();
         (at.end - at.cursor) as usize
     }
 
     /// Allocates a value. Returns `None` if there is no room for it.
+    ///
+    /// ```
+    /// use arena_bindings::Region;
+    /// use std::mem::MaybeUninit;
+    ///
+    /// let mut memory = [MaybeUninit::uninit(); 64];
+    /// let arena = Region::new(&mut memory);
+    /// assert_eq!(arena.alloc('a'), Some(&mut 'a'));
+    /// ```
     #[allow(clippy::mut_from_ref)]
     pub fn alloc<T>(&self, value: T) -> Option<&mut T> {
         let block = self.allocate(size_of::<T>(), align_of::<T>())?.cast::<T>();
@@ -86,6 +114,15 @@ impl<'m> Region<'m> {
     }
 
     /// Allocates a copy of the items. Returns `None` if there is no room for them.
+    ///
+    /// ```
+    /// use arena_bindings::Region;
+    /// use std::mem::MaybeUninit;
+    ///
+    /// let mut memory = [MaybeUninit::uninit(); 64];
+    /// let arena = Region::new(&mut memory);
+    /// assert_eq!(arena.alloc_slice(&[1, 2]), Some(&mut [1, 2][..]));
+    /// ```
     #[allow(clippy::mut_from_ref)]
     pub fn alloc_slice<T: Copy>(&self, items: &[T]) -> Option<&mut [T]> {
         let block = self
@@ -99,6 +136,15 @@ impl<'m> Region<'m> {
     }
 
     /// Allocates a copy of a string. Returns `None` if there is no room for it.
+    ///
+    /// ```
+    /// use arena_bindings::Region;
+    /// use std::mem::MaybeUninit;
+    ///
+    /// let mut memory = [MaybeUninit::uninit(); 64];
+    /// let arena = Region::new(&mut memory);
+    /// assert_eq!(arena.alloc_str("hello"), Some("hello"));
+    /// ```
     pub fn alloc_str(&self, text: &str) -> Option<&str> {
         let bytes = self.alloc_slice(text.as_bytes())?;
         // SAFETY: these are the bytes of a string.
@@ -106,6 +152,17 @@ impl<'m> Region<'m> {
     }
 
     /// Returns an empty vector, which grows in this arena.
+    ///
+    /// ```
+    /// use arena_bindings::Region;
+    /// use std::mem::MaybeUninit;
+    ///
+    /// let mut memory = [MaybeUninit::uninit(); 64];
+    /// let arena = Region::new(&mut memory);
+    /// let mut numbers = arena.vec();
+    /// assert_eq!(numbers.push(7u32), Ok(()));
+    /// assert_eq!(numbers.as_slice(), &[7]);
+    /// ```
     pub fn vec<T: Copy>(&self) -> RegionVec<'_, T> {
         RegionVec {
             arena: self,
@@ -116,6 +173,16 @@ impl<'m> Region<'m> {
     }
 
     /// Runs `work` with this arena, and then frees all that it allocated.
+    ///
+    /// ```
+    /// use arena_bindings::Region;
+    /// use std::mem::MaybeUninit;
+    ///
+    /// let mut memory = [MaybeUninit::uninit(); 64];
+    /// let mut arena = Region::new(&mut memory);
+    /// let sum = arena.scope(|inner| inner.alloc_slice(&[1, 2, 3]).map(|list| list.iter().sum()));
+    /// assert_eq!((sum, arena.used()), (Some(6), 0));
+    /// ```
     pub fn scope<R>(&mut self, work: impl FnOnce(&Region<'_>) -> R) -> R {
         let mark = self.cursor.get().cursor;
         let result = work(self);
@@ -124,18 +191,28 @@ impl<'m> Region<'m> {
     }
 
     /// Frees everything.
+    ///
+    /// ```
+    /// use arena_bindings::Region;
+    /// use std::mem::MaybeUninit;
+    ///
+    /// let mut memory = [MaybeUninit::uninit(); 64];
+    /// let mut arena = Region::new(&mut memory);
+    /// arena.alloc([0u8; 64]);
+    /// arena.reset();
+    /// assert_eq!(arena.used(), 0);
+    /// ```
     pub fn reset(&mut self) {
         self.rewind(self.cursor.get().end);
     }
 
     fn rewind(&mut self, mark: u64) {
-        // SAFETY: the library takes any numbers, and the pointer is to a variable of this call.
-        let code = self.update(|at| unsafe { ffi::arena_cursor_back(at, mark) });
-        debug_assert_eq!(code, 0);
+        let code = self.update(|at| ffi::arena_cursor_back(at, mark));
+        debug_assert_eq!(code, DONE);
     }
 
     // Calls the library with the cursor, and returns its code.
-    fn update(&self, call: impl FnOnce(*mut Cursor) -> u32) -> u32 {
+    fn update(&self, call: impl FnOnce(&mut Cursor) -> u32) -> u32 {
         let mut at = self.cursor.get();
         let code = call(&mut at);
         self.cursor.set(at);
@@ -144,11 +221,9 @@ impl<'m> Region<'m> {
 
     fn allocate(&self, size: usize, align: usize) -> Option<NonNull<u8>> {
         let mut addr = 0;
-        // SAFETY: the library takes any numbers, and the two pointers are to variables of this call.
-        let code = self.update(|at| unsafe {
-            ffi::arena_cursor_place(at, size as u64, align as u64, &mut addr)
-        });
-        (code == 0).then(|| self.pointer(addr))
+        let code =
+            self.update(|at| ffi::arena_cursor_place(at, size as u64, align as u64, &mut addr));
+        (code == DONE).then(|| self.pointer(addr))
     }
 
     // The pointer to an address that the library returned with code 0.
@@ -168,6 +243,17 @@ pub struct RegionVec<'a, T: Copy> {
 
 impl<'a, T: Copy> RegionVec<'a, T> {
     /// Appends a value. If there is no room for it, returns it as an error, and the vector is as it was.
+    ///
+    /// ```
+    /// use arena_bindings::Region;
+    /// use std::mem::MaybeUninit;
+    ///
+    /// let mut memory = [MaybeUninit::uninit(); 64];
+    /// let arena = Region::new(&mut memory);
+    /// let mut bytes = arena.vec::<[u8; 40]>();
+    /// assert_eq!(bytes.push([1; 40]), Ok(()));
+    /// assert_eq!(bytes.push([2; 40]), Err([2; 40]));
+    /// ```
     pub fn push(&mut self, value: T) -> Result<(), T> {
         if self.len == self.capacity
             && !self.resize((self.capacity * 2).max(4))
@@ -182,12 +268,32 @@ impl<'a, T: Copy> RegionVec<'a, T> {
     }
 
     /// Returns the values.
+    ///
+    /// ```
+    /// use arena_bindings::Region;
+    /// use std::mem::MaybeUninit;
+    ///
+    /// let mut memory = [MaybeUninit::uninit(); 64];
+    /// let arena = Region::new(&mut memory);
+    /// assert_eq!(arena.vec::<u8>().as_slice(), &[]);
+    /// ```
     pub fn as_slice(&self) -> &[T] {
         // SAFETY: this many values were written.
         unsafe { std::slice::from_raw_parts(self.start.as_ptr(), self.len) }
     }
 
     /// Frees spare capacity, if the vector is the newest block and at most half full, and returns the values.
+    ///
+    /// ```
+    /// use arena_bindings::Region;
+    /// use std::mem::MaybeUninit;
+    ///
+    /// let mut memory = [MaybeUninit::uninit(); 64];
+    /// let arena = Region::new(&mut memory);
+    /// let mut bytes = arena.vec::<u8>();
+    /// bytes.push(1).unwrap();
+    /// assert_eq!((bytes.into_slice(), arena.used()), (&mut [1][..], 1));
+    /// ```
     pub fn into_slice(mut self) -> &'a mut [T] {
         if self.len < self.capacity {
             self.resize(self.len);
@@ -197,15 +303,26 @@ impl<'a, T: Copy> RegionVec<'a, T> {
     }
 
     /// Frees the vector's block. Its bytes are used again only if it is the newest block.
+    ///
+    /// ```
+    /// use arena_bindings::Region;
+    /// use std::mem::MaybeUninit;
+    ///
+    /// let mut memory = [MaybeUninit::uninit(); 64];
+    /// let arena = Region::new(&mut memory);
+    /// let mut bytes = arena.vec::<u8>();
+    /// bytes.push(1).unwrap();
+    /// bytes.free();
+    /// assert_eq!(arena.used(), 0);
+    /// ```
     pub fn free(self) {
         let size = self.size();
         if size > 0 {
             let addr = self.start.addr().get() as u64;
-            // SAFETY: the library takes any numbers, and the pointer is to a variable of this call.
             let code = self
                 .arena
-                .update(|at| unsafe { ffi::arena_cursor_give_back(at, addr, size) });
-            debug_assert_eq!(code, 0);
+                .update(|at| ffi::arena_cursor_give_back(at, addr, size));
+            debug_assert_eq!(code, DONE);
         }
     }
 
@@ -221,17 +338,12 @@ impl<'a, T: Copy> RegionVec<'a, T> {
         };
         let (old, new, align) = (self.size(), new as u64, align_of::<T>() as u64);
         let mut addr = self.start.addr().get() as u64;
-        // SAFETY: the library takes any numbers, and the two pointers are to variables of this call.
-        let code = self.arena.update(|at| unsafe {
-            if old == 0 {
-                ffi::arena_cursor_place(at, new, align, &mut addr)
-            } else if new >= old {
-                ffi::arena_cursor_grow(at, &mut addr, old, align, new, align)
-            } else {
-                ffi::arena_cursor_shrink(at, &mut addr, old, align, new, align)
-            }
+        let code = self.arena.update(|at| match old {
+            0 => ffi::arena_cursor_place(at, new, align, &mut addr),
+            _ if new >= old => ffi::arena_cursor_grow(at, &mut addr, old, align, new, align),
+            _ => ffi::arena_cursor_shrink(at, &mut addr, old, align, new, align),
         });
-        if code != 0 {
+        if code != DONE {
             return false;
         }
         let to = self.arena.pointer(addr).cast::<T>();

@@ -1,8 +1,8 @@
 // The calls on numbers. Expected numbers are worked out by hand from the rules.
 use crate::{
     Chunk, Counts, Cursor, arena_cursor_back, arena_cursor_chunk, arena_cursor_count,
-    arena_cursor_enter, arena_cursor_give_back, arena_cursor_grow, arena_cursor_next_chunk,
-    arena_cursor_place, arena_cursor_reset, arena_cursor_shrink,
+    arena_cursor_enter, arena_cursor_find, arena_cursor_give_back, arena_cursor_grow,
+    arena_cursor_next_chunk, arena_cursor_place, arena_cursor_reset, arena_cursor_shrink,
 };
 
 fn fresh() -> Cursor {
@@ -153,4 +153,64 @@ fn a_chunk_is_entered_and_emptied(rt: HostRuntime) {
     assert_eq!(rt; arena_cursor_enter(&mut at, 0, 192, 1), 4);
     assert_eq!(rt; arena_cursor_enter(&mut at, 4096, u64::MAX - 4095, 1), 4);
     assert_eq!(rt; (at.start, at.end), (4096, 4288));
+}
+
+// The start, the size, the alignment, the least alignment, and the address found below 1100.
+const FOUND: &[(u64, u64, u64, u64, u64)] = &[
+    // 1090, rounded down to a multiple of 16, the greater alignment.
+    (1000, 10, 8, 16, 1088),
+    (1000, 10, 16, 8, 1088),
+    (1000, 101, 1, 1, 0),
+    (1000, 1, 3, 1, 0),
+    (1000, 1, 1, 32, 0),
+    (0, 1, 1, 1, 0),
+];
+
+#[test]
+fn a_place_is_found_by_numbers(rt: HostRuntime) {
+    for row in FOUND {
+        let (start, size, align, least, wanted) = *row;
+        assert!(rt;
+            arena_cursor_find(start, 1100, size, align, least) == wanted,
+            "{start} {size} {align} {least}"
+        );
+    }
+}
+
+#[test]
+fn blocks_are_padded_to_the_least_alignment(rt: HostRuntime) {
+    let (mut at, mut addr) = (fresh(), 0);
+    at.min_align = 8;
+    // 1100 is no multiple of 8.
+    assert_eq!(rt; arena_cursor_place(&mut at, 10, 2, &mut addr), 3);
+    assert_eq!(rt; arena_cursor_enter(&mut at, 1000, 104, 8), 0);
+    assert_eq!(rt; arena_cursor_place(&mut at, 10, 2, &mut addr), 0);
+    assert_eq!(rt; addr, 1088);
+    // 17 bytes take 24, which is 14 more: from 1088 down to 1074, rounded to 1072.
+    assert_eq!(rt; arena_cursor_grow(&mut at, &mut addr, 10, 2, 17, 2), 0);
+    assert_eq!(rt; addr, 1072);
+    // 12 of 17 bytes are given back in multiples of 8: 8 are less than half.
+    assert_eq!(rt; arena_cursor_shrink(&mut at, &mut addr, 17, 2, 5, 2), 0);
+    assert_eq!(rt; addr, 1072);
+    assert_eq!(rt; arena_cursor_give_back(&mut at, 1072, 17), 0);
+    assert_eq!(rt; at.cursor, 1096);
+    assert_eq!(rt; arena_cursor_back(&mut at, 1100), 4);
+    assert_eq!(rt; arena_cursor_enter(&mut at, 1000, 100, 8), 4);
+}
+
+#[test]
+fn blocks_of_no_place_in_the_chunk_have_a_code(rt: HostRuntime) {
+    let (mut at, mut addr) = (fresh(), 2004);
+    assert_eq!(rt; arena_cursor_grow(&mut at, &mut addr, 8, 4, 16, 4), 6);
+    assert_eq!(rt; arena_cursor_shrink(&mut at, &mut addr, 16, 4, 8, 4), 7);
+    assert_eq!(rt; arena_cursor_shrink(&mut at, &mut addr, 16, 4, 8, 8), 6);
+    assert_eq!(rt; arena_cursor_give_back(&mut at, 2004, 8), 7);
+    // It ends at the start, or one byte past it.
+    assert_eq!(rt; arena_cursor_give_back(&mut at, 990, 10), 7);
+    assert_eq!(rt; arena_cursor_give_back(&mut at, 990, 11), 4);
+    assert_eq!(rt; arena_cursor_give_back(&mut at, 1050, 0), 7);
+    // One more byte at a multiple of 2^63 has no layout.
+    addr = 1100;
+    assert_eq!(rt; arena_cursor_grow(&mut at, &mut addr, 0, 1 << 63, 1, 1), 5);
+    assert_eq!(rt; (addr, at.cursor), (1100, 1100));
 }
