@@ -4,6 +4,7 @@ the model in docs/MODEL.md. Prints those that differ, and exits with 1 then. Wit
 aren't blank and no comment; of the model's, imports don't count.
 
     tools/lines.py [--write]
+    tools/lines.py --words      prints how many words each page has, as wc counts them, and all
 """
 
 import pathlib
@@ -69,7 +70,17 @@ def right(name, page):
     return re.sub(r"\d+(\s+lines\s+in\s+)\d+(?=\s+files)", rf"{count(files, skipped)}\g<1>{len(files)}", page)
 
 
+def words():
+    """Prints the number of words of each page."""
+    pages = sorted(page for form in ("*.md", "docs/**/*.md", "bench/**/*.md", "crates/*/*.md") for page in TOP.glob(form))
+    counts = [(len(page.read_text().split()), page.relative_to(TOP)) for page in pages]
+    for number, page in [*counts, (sum(number for number, _ in counts), "all")]:
+        print(f"{number:6} {page}")
+
+
 def main():
+    if "--words" in sys.argv[1:]:
+        return words()
     differ = False
     for name in ("LIBRARY.md", "MODEL.md"):
         file = TOP / "docs" / name
