@@ -1,9 +1,9 @@
 #!/usr/bin/env python3
-"""Compares the numbers of lines on the pages with the sources: the table of docs/LIBRARY.md ("What it costs to prove"), and the size of
-the model in docs/MODEL.md. Prints those that differ, and exits with 1 then. With --write it puts them right instead. Lines count that
-aren't blank and no comment; of the model's, imports don't count.
+"""Compares numbers on the pages with the sources: the table of docs/LIBRARY.md ("What it costs to prove"), the size of the
+model in docs/MODEL.md, and how many mutants the gate tries in docs/PROMISES.md. Prints those that differ, and exits with 1
+then. Lines count that aren't blank and no comment; of the model's, imports don't count.
 
-    tools/lines.py [--write]
+    tools/lines.py [--write]    with --write it puts them right instead
     tools/lines.py --words      prints how many words each page has, as wc counts them, and all
 """
 
@@ -63,6 +63,8 @@ def right(name, page):
     if name == "LIBRARY.md":
         row = re.compile(r"^\| `\w+`.* \| [\d,]+ \| [\d,]+ \| [\d,]+ \|$", re.MULTILINE)
         return row.sub(lambda found: library_row(found[0]), page)
+    if name == "PROMISES.md":
+        return re.sub(r"(?<=`rt ci` tries )\d+", str(len(list(CRATES.glob("*/must-fail/*.edit")))), page)
     skipped = r"--|(pub )?use "
     part = count([CRATES / f"{name.replace('/', '/specs/')}.antt" for name in MODEL], skipped)
     files = imported(CRATES / "arena_calls/specs/Ends.antt", set())
@@ -82,7 +84,7 @@ def main():
     if "--words" in sys.argv[1:]:
         return words()
     differ = False
-    for name in ("LIBRARY.md", "MODEL.md"):
+    for name in ("LIBRARY.md", "MODEL.md", "PROMISES.md"):
         file = TOP / "docs" / name
         page = file.read_text()
         wanted = right(name, page)
