@@ -1,8 +1,8 @@
 #!/bin/bash
 # Measures all that docs/PERFORMANCE.md shows of this machine, for example:
 #     NATIVE=bench/driver/target/release/native bench/all.sh > bench/measured.txt
-# That is every loop (loops.sh), cost against size (sizes.sh), whole programs (calls.sh, gen.sh, scripts.sh, lint.sh), and
-# instructions if valgrind is there (instructions.sh). The first lines say what was measured where. From the files
+# That is every loop (loops.sh), cost against size (sizes.sh), whole programs (calls.sh, gen.sh, scripts.sh, lint.sh),
+# instructions if valgrind is there (instructions.sh), and allocations (examples/failing_memory.sh). The first lines say what was measured where. From the files
 # bench/measured*.txt, one of each machine, page.py makes the page. On a busy machine it doesn't begin: if the load is
 # above a half, or the rounds of one loop differ by more than a tenth. With ANYWAY=1 it does, and the file says so.
 set -euo pipefail
@@ -23,3 +23,4 @@ for words in calls gen scripts lint; do
     "$here/$words.sh"
 done
 ! command -v valgrind > /dev/null || "$here/instructions.sh"
+"$here/../examples/failing_memory.sh" | sed -n 's/^\(.*\), \([0-9]*\) allocations:$/allocations \1  \2/p'

@@ -86,7 +86,7 @@ def program_row(line, machines):
     cells = []
     for found in machines:
         case = found.get(f"lines {row[2]}")
-        cells += [f" {told(case[i])} ms, {told(case[3 + i])} MiB |" for i in (0, 1)] if case else [" |", " |"]
+        cells += [f" {told(case[i])} ms, {case[3 + i]:.3g} MiB |" for i in (0, 1)] if case else [" |", " |"]
         cells += [f" {case[2]:.2f}, {case[5]:.2f} |" if case else " |"]
     return row[1] + "".join(cells)
 

@@ -1,9 +1,10 @@
 #!/usr/bin/env python3
-"""Compares the numbers of lines on the pages with the sources: the table of docs/LIBRARY.md ("What it costs to prove"), and the size of
-the model in docs/MODEL.md. Prints those that differ, and exits with 1 then. With --write it puts them right instead. Lines count that
-aren't blank and no comment; of the model's, imports don't count.
+"""Compares numbers on the pages with the sources: the table of docs/LIBRARY.md ("What it costs to prove"), the size of the
+model in docs/MODEL.md and README.md, and how many mutants the gate tries in docs/PROMISES.md. Prints those that differ, and exits with 1
+then. Lines count that aren't blank and no comment; of the model's, imports don't count.
 
-    tools/lines.py [--write]
+    tools/lines.py [--write]    with --write it puts them right instead
+    tools/lines.py --words      prints how many words each page has, as wc counts them, and all
 """
 
 import pathlib
@@ -62,25 +63,37 @@ def right(name, page):
     if name == "LIBRARY.md":
         row = re.compile(r"^\| `\w+`.* \| [\d,]+ \| [\d,]+ \| [\d,]+ \|$", re.MULTILINE)
         return row.sub(lambda found: library_row(found[0]), page)
+    if name == "PROMISES.md":
+        return re.sub(r"(?<=`rt ci` tries )\d+", str(len(list(CRATES.glob("*/must-fail/*.edit")))), page)
     skipped = r"--|(pub )?use "
     part = count([CRATES / f"{name.replace('/', '/specs/')}.antt" for name in MODEL], skipped)
     files = imported(CRATES / "arena_calls/specs/Ends.antt", set())
-    page = re.sub(r"\d+(?=\s+lines,\s+the\s+rules)", str(part), page)
+    page = re.sub(r"\d+(?=\s+lines,\s+(?:the\s+rules|given))", str(part), page)
     return re.sub(r"\d+(\s+lines\s+in\s+)\d+(?=\s+files)", rf"{count(files, skipped)}\g<1>{len(files)}", page)
 
 
+def words():
+    """Prints the number of words of each page."""
+    pages = sorted(page for form in ("*.md", "docs/**/*.md", "bench/**/*.md", "crates/*/*.md") for page in TOP.glob(form))
+    counts = [(len(page.read_text().split()), page.relative_to(TOP)) for page in pages]
+    for number, page in [*counts, (sum(number for number, _ in counts), "all")]:
+        print(f"{number:6} {page}")
+
+
 def main():
+    if "--words" in sys.argv[1:]:
+        return words()
     differ = False
-    for name in ("LIBRARY.md", "MODEL.md"):
-        file = TOP / "docs" / name
+    for name in ("README.md", "docs/LIBRARY.md", "docs/MODEL.md", "docs/PROMISES.md"):
+        file = TOP / name
         page = file.read_text()
-        wanted = right(name, page)
+        wanted = right(file.name, page)
         if "--write" in sys.argv[1:]:
             file.write_text(wanted)
             continue
         for number, (line, other) in enumerate(zip(page.split("\n"), wanted.split("\n")), 1):
             if line != other:
-                print(f"docs/{name}:{number}: {line}\n    by the sources: {other}")
+                print(f"{name}:{number}: {line}\n    by the sources: {other}")
                 differ = True
     return int(differ)
 

@@ -95,14 +95,14 @@ static inline struct arena_cursor arena_cursor_over(void *memory, size_t size) {
     return at;
 }
 
-/* Returns a new block, or NULL if there is no room for it. */
+/* Returns a new block, or NULL if there is no room for it, or if size and alignment are no layout or the cursor isn't valid. */
 static inline void *arena_cursor_alloc(struct arena_cursor *at, size_t size, size_t align) {
     uint64_t addr = 0;
     return arena_cursor_place(at, size, align, &addr) ? NULL : (void *)(uintptr_t)addr;
 }
 
 /* Resizes a block, and returns it with as many of its bytes as it still has room for. Returns NULL, and leaves the block as
- * it was, if there is no room. */
+ * it was, if there is no room, the layout or the cursor isn't valid, or the block isn't in use. */
 static inline void *arena_cursor_realloc(struct arena_cursor *at, void *block, size_t size, size_t new_size, size_t align) {
     uint64_t addr = (uint64_t)(uintptr_t)block;
     if (size == 0) return arena_cursor_alloc(at, new_size, align);
