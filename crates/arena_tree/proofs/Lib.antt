@@ -22,3 +22,4 @@ mod ParseLemmas
 pub mod Layers
 pub mod RunLemmas
 pub mod PartRunLemmas
+pub mod HoleLemmas
