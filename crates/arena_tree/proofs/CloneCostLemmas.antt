@@ -9,11 +9,10 @@ use Rattle.tree_rules.specs.Trees.{Exprs, NoExprs, And, Sum, Prod, Stmts, NoStmt
 use Rattle.tree_rules.specs.Trees as tree
 use Rattle.tree_nodes.specs.declared.node.Node.{Node}
 use Rattle.arena_tree.specs.Counts.{nodes}
-use Rattle.arena_tree.specs.Spending.{Spends}
-use Rattle.arena_tree.specs.Cloning.{names_bytes, clone_bytes, below_bytes, row_bytes, RowCopyOf, TreeCopyOf}
+use Rattle.arena_tree.specs.Spending.{AnyBlock, Spends}
+use Rattle.arena_tree.specs.Cloning.{names_bytes, clone_bytes, below_bytes, row_bytes}
 use Rattle.arena_tree.specs.Subtrees.{Subtree, OfExpr, OfStmt, expr_row, stmt_row, RowAt}
-use Rattle.arena_tree.proofs.CopyLayoutLemmas.{tree_copy}
-use Rattle.tree_nodes.proofs.SpendingLemmas.{spends_then, spends_more, asks_of}
+use Rattle.tree_nodes.proofs.SpendingLemmas.{spends_then, spends_more}
 use Rattle.tree_nodes.proofs.RowLemmas.{Kid}
 use Rattle.tree_nodes.proofs.SubtreeLemmas.{kids_it, own_bytes}
 
@@ -79,7 +78,5 @@ both_spend t is text frame kids =
 
 -- the list of a tree's statements
 pub spends_tree : {old new : View} {e : Option AllocError} (ss : Stmts)
-    → Spends (RowCopyOf (stmt_row ss)) (row_bytes (stmt_row ss)) 0 0 old new e
-    → Spends (TreeCopyOf ss) (clone_bytes ss) 0 0 old new e
-spends_tree {old} {new} {e} ss spends =
-    asks_of (tree_copy ss) (subst (λ n. Spends (RowCopyOf (stmt_row ss)) n 0 0 old new e) (stmt_row_bytes ss) spends)
+    → Spends AnyBlock (row_bytes (stmt_row ss)) 0 0 old new e → Spends AnyBlock (clone_bytes ss) 0 0 old new e
+spends_tree {old} {new} {e} ss = subst (λ n. Spends AnyBlock n 0 0 old new e) (stmt_row_bytes ss)

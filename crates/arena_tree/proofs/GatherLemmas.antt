@@ -17,8 +17,7 @@ use Rattle.tree_nodes.proofs.RowLemmas.{read_none, read_more, read_frame, exprs_
 use Rattle.arena_tree.specs.TreesAt.{IsPlaced}
 use Rattle.arena_tree.specs.Subtrees.{Subtree, OfExpr, IsTreePlaced, IsRowBuilt, IsRowRead, expr_row}
 use Rattle.arena_tree.specs.Parts.{IsFactor, IsTerm, Reads, terms_at, terms_behind, signed_tree}
-use Rattle.arena_tree.specs.Layouts.{AskedFor}
-use Rattle.arena_tree.specs.Spending.{Spends, Stopped, SpendsUpTo, IsFirst, AreRead, FactorsRead, TermsRead, most_for, node_cost, credit}
+use Rattle.arena_tree.specs.Spending.{AnyBlock, Spends, Stopped, SpendsUpTo, IsFirst, AreRead, FactorsRead, TermsRead, most_for, node_cost, credit}
 use Rattle.arena_tree.specs.declared.stop.Stop.{Stop}
 use Rattle.arena_tree.proofs.PartCostLemmas.{stops_then}
 use Rattle.arena_tree.proofs.PartLemmas.{reads_then, reads_plain, reads_terms, terms_more, joined}
@@ -48,7 +47,7 @@ pub record AreBehind {P : Type 0} (trees : P → Exprs) (spelled : P → List To
   pub row : IsRowRead (expr_row (trees part)) old.memory now.memory list nodes
   pub more : length nodes ≡ length front + 1
   pub few : 2 * (list.raw.len + length nodes) ≤ end - from + 1
-  pub spends : Spends (AskedFor bytes) (most_for (end - from)) 0 (1177 + (credit list + node_cost * length front)) old now None
+  pub spends : Spends AnyBlock (most_for (end - from)) 0 (1177 + (credit list + node_cost * length front)) old now None
 
 -- ---- One more child
 
@@ -56,7 +55,7 @@ pub record AreBehind {P : Type 0} (trees : P → Exprs) (spelled : P → List To
 pub kid_read : {P : Type 0} {trees : P → Exprs} {spelled : P → List Token → List Token} {operator : Token} {deep from here end : ℕ}
     {src : List ℕ} {old one two : View} {list : Vec Node} {nodes : List Node}
     → AreRead trees spelled operator deep src from here old one list nodes → SpendsUpTo here src one two (Ok end) → here < end
-    → Spends (AskedFor src) (most_for (end - from)) 0 (1536 + (credit list + node_cost * length nodes)) old two None
+    → Spends AnyBlock (most_for (end - from)) 0 (1536 + (credit list + node_cost * length nodes)) old two None
 kid_read r kid later = spends_then r.spends kid (read_frame r.row) (omega (arith, later)) (omega (arith, r.later, later))
     (omega (arith, r.later, later))
 

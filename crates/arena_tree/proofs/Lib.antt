@@ -5,9 +5,8 @@ pub mod LineLemmas
 pub mod PrintLemmas
 pub mod PartCostLemmas
 pub mod GatherLemmas
-pub mod CopyLayoutLemmas
-pub mod AskedLemmas
 pub mod CloneCostLemmas
+pub mod CloneAskLemmas
 pub mod CloneLemmas
 pub mod WholeTreeLemmas
 pub mod FoldBlockLemmas
@@ -22,3 +21,5 @@ mod ParseLemmas
 pub mod Layers
 pub mod RunLemmas
 pub mod PartRunLemmas
+pub mod HoleLemmas
+pub mod EndLemmas

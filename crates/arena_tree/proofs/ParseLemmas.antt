@@ -6,7 +6,10 @@ use Rattle.std.proofs.lemmas.Bool.{cases_lt}
 use Rattle.arena_rules.specs.State.{allocated_bytes, top_of}
 use Rattle.arena_rules.proofs.AskingLemmas.{asks_more}
 use Rattle.arena_chunks.specs.Source.{View}
+use Rattle.arena_chunks.specs.Answers.{Answer}
+use Rattle.arena_chunks.specs.Answers.Answer.{Refused as NotPlaced, Exhausted}
 use Rattle.arena_chunks.specs.Frame.{Frame}
+use Rattle.arena_items.specs.Asks.{EndsAt}
 use Rattle.arena_chunks.specs.Asking.{IsStarved, IsRefusedBySource}
 use Rattle.arena_items.specs.Denied.{Layouts}
 use Rattle.arena_items.specs.declared.room.AllocError.{AllocError}
@@ -17,7 +20,11 @@ use Rattle.tree_rules.specs.Trees.{Stmts}
 use Rattle.tree_rules.specs.declared.refused.Refused.{Refused}
 use Rattle.tree_rules.specs.declared.refused.Refused.TheVariants.{Syntax, TooDeep, NumberTooBig}
 use Rattle.arena_tree.specs.Spending.{Spends, IsStarvedBehind, Stopped}
-use Rattle.arena_tree.specs.Stops.{OnText}
+use Rattle.tree_rules.specs.Grammar.{Program, spell}
+use Rattle.tree_rules.specs.Tokens.{tokens, without_places}
+use Rattle.arena_tree.specs.Asking.{program_asks}
+use Rattle.arena_tree.specs.Stopping.{ProgramEnds}
+use Rattle.arena_tree.specs.Stops.{OnText, OnArena}
 use Rattle.arena_tree.specs.declared.stop.Stop.{Stop}
 use Rattle.arena_tree.specs.declared.stop.Stop.TheVariants.{AllocErr, OutOfMemory, Text}
 use Rattle.arena_tree.specs.declared.tree.Tree.{Tree}
@@ -41,7 +48,7 @@ starved old new growing (inr (inr up)) = record { growing = growing; cause = by 
     by (inr much) = inr (inl much)
 
 pub short : {layouts : Layouts} {few : ℕ} {old new : View} (most k : ℕ) → Spends layouts few 0 0 old new (Some (alloc.AllocErr k))
-    → few ≤ most → IsShortOf layouts most k old new × Frame old.memory new.memory [] []
+    → few ≤ most → IsShortOf most k old new × Frame old.memory new.memory [] []
 short {layouts} {few} {old} {new} most k spends less = grind (arith, nat_tests, starved)
 
 -- ---- Texts that are judged while they are placed, or before
@@ -55,18 +62,23 @@ refused_meanwhile bytes old new (NumberTooBig at) h frame = (h, frame)
 -- why the parser stopped
 pub stopped_parses : (bytes : List ℕ) (old new : View) (r : Result Stmts Refused) → TreeOf bytes r → refusal_of bytes ≡ refused_by r
     → (stop : Stop) → OnText {X = List ℕ} (Err stop) (refusal_of bytes ≡ None → ⊥) → Stopped 0 bytes old new stop
+    → ((p : Program) → spell p [] ≡ without_places (tokens bytes) → OnArena {X = List ℕ} (Err stop) (EndsAt (program_asks 0 p) [] old new))
     → ParsesInOnePass bytes old new (Err (unplaced_by (refusal_of bytes) stop))
-stopped_parses bytes old new (Err why) h is stop text spent =
+stopped_parses bytes old new (Err why) h is stop text spent ends =
     subst (λ o. ParsesInOnePass bytes old new (Err (unplaced_by o stop))) (sym is) (refused_meanwhile bytes old new why h spent.1)
-stopped_parses bytes old new (Ok trees) h is stop text spent =
-    subst (λ o. ParsesInOnePass bytes old new (Err (unplaced_by o stop))) (sym is) (by stop text spent)
+stopped_parses bytes old new (Ok trees) h is stop text spent ends =
+    subst (λ o. ParsesInOnePass bytes old new (Err (unplaced_by o stop))) (sym is)
+    (by stop text spent (ends h.program.program h.program.tokens_are))
   where
+    ended : (answer : Answer) → EndsAt (program_asks 0 h.program.program) [] old new answer → ProgramEnds bytes old new answer
+    ended answer ends = record { program = h.program.program; tokens_are = h.program.tokens_are; ends = ends }
+
     by : (s : Stop) → OnText {X = List ℕ} (Err s) (refusal_of bytes ≡ None → ⊥) → Stopped 0 bytes old new s
-        → ParsesInOnePass bytes old new (Err (unplaced_by None s))
-    by (AllocErr k) text spent =
-        let why = short (parse_bytes (length bytes)) k spent.0 (omega arith) in ((trees, h), why.0, why.1)
-    by OutOfMemory text spent = ((trees, h), spent.1)
-    by Text text spent = absurd (text is)
+        → OnArena {X = List ℕ} (Err s) (EndsAt (program_asks 0 h.program.program) [] old new) → ParsesInOnePass bytes old new (Err (unplaced_by None s))
+    by (AllocErr k) text spent ends =
+        let why = short (parse_bytes (length bytes)) k spent.0 (omega arith) in ((trees, h), ended (NotPlaced k) ends, why.0, why.1)
+    by OutOfMemory text spent ends = ((trees, h), ended Exhausted ends, spent.1)
+    by Text text spent ends = absurd (text is)
 
 -- A text that was judged before isn't refused.
 pub judged_parses : (bytes : List ℕ) (old new : View) (result : Result Tree TreeErr)

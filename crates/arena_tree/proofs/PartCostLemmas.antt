@@ -2,7 +2,7 @@
 -- a list, and parts of which one failed.
 use Rattle.std.proofs.lemmas.Bool.Decides.{nat_tests}
 use Rattle.std.proofs.Common.{◌≡◌, ℕ, ◌+◌, ◌≤◌, arith, Err, Some, None, List, []}
-use Rattle.std.specs.Prelude.{Result, IsErr, IsErrAnd}
+use Rattle.std.specs.Prelude.{Option, Result, IsErr, IsErrAnd}
 use Rattle.arena_store.specs.declared.block.Block.{Block}
 use Rattle.arena_chunks.proofs.Layers.{frame_reflexive, frame_then}
 use Rattle.arena_chunks.specs.Source.{View}
@@ -12,8 +12,8 @@ use Rattle.arena_items.specs.declared.room.AllocError.{AllocError}
 use Rattle.arena_tree.specs.Stops.{stop_of, cause, OnText}
 use Rattle.arena_tree.specs.declared.stop.Stop.{Stop}
 use Rattle.arena_tree.specs.declared.stop.Stop.TheVariants.{AllocErr, OutOfMemory, Text}
-use Rattle.arena_tree.specs.Spending.{Spends, Stopped, SpendsUpTo, SpendsAll}
-use Rattle.tree_nodes.proofs.SpendingLemmas.{spends_nothing, spends_then, spends_more, asks_any, frees}
+use Rattle.arena_tree.specs.Spending.{AnyBlock, Spends, Stopped, SpendsUpTo, SpendsAll}
+use Rattle.tree_nodes.proofs.SpendingLemmas.{spends_nothing, spends_then, spends_more, asks_of, asks_any, frees}
 
 -- ---- Parts that weren't read whole
 
@@ -30,11 +30,19 @@ pub stops_more : {layouts : Layouts} {few many : ℕ} {old new : View} (e : Stop
     → Spends layouts many 0 0 old new (cause e) × Frame old.memory new.memory [] []
 stops_more e stopped less = (spends_more stopped.0 (omega (arith, less)) (omega (arith, less)), stopped.1)
 
+pub any_block : {layouts : Layouts} {bytes before after : ℕ} {old new : View} {e : Option AllocError}
+    → Spends layouts bytes before after old new e → Spends AnyBlock bytes before after old new e
+any_block spends = asks_of (λ size align asked. tt) spends
+
 -- What the arena refused.
 pub arena_stops : {layouts : Layouts} {bytes before after : ℕ} {old new : View} (e : AllocError)
     → Spends layouts bytes before after old new (Some e)
-    → Spends layouts bytes before after old new (cause (stop_of e)) × Frame old.memory new.memory [] []
-arena_stops e spends = grind (arith, nat_tests)
+    → Spends AnyBlock bytes before after old new (cause (stop_of e)) × Frame old.memory new.memory [] []
+arena_stops {layouts} {bytes} {before} {after} {old} {new} e spends = by e (any_block spends)
+  where
+    by : (e : AllocError) → Spends AnyBlock bytes before after old new (Some e)
+        → Spends AnyBlock bytes before after old new (cause (stop_of e)) × Frame old.memory new.memory [] []
+    by e spends = grind (arith, nat_tests)
 
 -- What was read until the text was refused.
 pub text_stops : {some layouts : Layouts} {few left all : ℕ} {old new : View} {blocks : List Block} → Spends some few 0 left old new None
@@ -49,7 +57,7 @@ nothing_stops at src a = (spends_nothing _ 0 0 a (omega arith), frame_reflexive 
 abbrev pub IsPassedOn : {X : Type 0} → Result X Stop → Stop → Type 0
 IsPassedOn result e = IsErr result × IsErrAnd result (λ f. f ≡ e)
 
-passed_on : {X : Type 0} (P : Result X Stop → Type 0) (result : Result X Stop) (e : Stop) → IsPassedOn result e → P (Err e) → P result
+pub passed_on : {X : Type 0} (P : Result X Stop → Type 0) (result : Result X Stop) (e : Stop) → IsPassedOn result e → P (Err e) → P result
 passed_on P result e is h = grind (arith, nat_tests)
 
 pub err_up_to : {old new : View} (at : ℕ) (src : List ℕ) (result : Result ℕ Stop) (e : Stop) → IsPassedOn result e

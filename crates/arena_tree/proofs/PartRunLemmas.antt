@@ -112,11 +112,11 @@ is_more {list} {longer} {old} {new} many nodes room same some took cap len held 
     subst (λ n. IsMore list longer n room old new) same
     (record { took = took; cap = cap; len = len; held = held; some = omega (arith, same, some) })
 
-growth_same : (cap cap' len len' few few' room room' : ℕ) → cap ≡ cap' → len ≡ len' → few ≡ few' → room ≡ room'
+pub growth_same : (cap cap' len len' few few' room room' : ℕ) → cap ≡ cap' → len ≡ len' → few ≡ few' → room ≡ room'
     → list_growth cap (len + few) room ≡ list_growth cap' (len' + few') room'
 growth_same cap cap' len len' few few' room room' a b c d = cc (a, b, c, d)
 
-line_same : (cap cap' len len' few : ℕ) → cap ≡ cap' → len ≡ len' → few ≡ 1 → amortised_growth 88 cap (len + few) ≡ amortised_growth 88 cap' (len' + 1)
+pub line_same : (cap cap' len len' few : ℕ) → cap ≡ cap' → len ≡ len' → few ≡ 1 → amortised_growth 88 cap (len + few) ≡ amortised_growth 88 cap' (len' + 1)
 line_same cap cap' len len' few a b c = cc (a, b, c)
 
 module _ {old one new : View} {list longer : Vec Node} {nodes room : ℕ} (row : ℕ → Row) (r : IsRow row old one list nodes)
@@ -148,10 +148,10 @@ module _ {bytes : List ℕ} where
 
   module _ {from here stop few : ℕ} {old one two : View} {list : Vec Node} (r : RowRead spell_factors factors_row Star bytes from here old one list few)
       (k : FactorRan bytes here stop one two) where
-    factors_spelled : spelled_at bytes from ≡ spell_factors (Times r.part k.part) (spelled_at bytes stop)
+    pub factors_spelled : spelled_at bytes from ≡ spell_factors (Times r.part k.part) (spelled_at bytes stop)
     factors_spelled = r.tokens_are ∙ ap (λ (ts : List Token). spell_factors r.part (Star ∷ ts)) k.tokens_are
 
-    factors_child : IsRow (λ n. one_more (factors_row n r.part) (factor_asks (n + placed_by (factors_row n r.part).asks) k.part)) old two list (few + 1)
+    pub factors_child : IsRow (λ n. one_more (factors_row n r.part) (factor_asks (n + placed_by (factors_row n r.part).asks) k.part)) old two list (few + 1)
     factors_child = row_child (λ n. factors_row n r.part) (λ n. factor_asks n k.part) r.is_row k.ran
 
     pub factors_last : {new : View} {longer : Vec Node} {room : ℕ} → IsMore list longer (few + 1) room two new → room ≡ few + 1
@@ -162,7 +162,7 @@ module _ {bytes : List ℕ} where
         record { part = Times r.part k.part; tokens_are = factors_spelled; ran = record { later = put.later; runs = put.runs } }
 
     module _ {next : ℕ} (t : IsTokenAt bytes stop Star next) where
-      star_spelled : spelled_at bytes from ≡ spell_factors (Times r.part k.part) (Star ∷ spelled_at bytes next)
+      pub star_spelled : spelled_at bytes from ≡ spell_factors (Times r.part k.part) (Star ∷ spelled_at bytes next)
       star_spelled = factors_spelled ∙ ap (spell_factors (Times r.part k.part)) (token_spelled t)
 
       pub factors_more : few + 1 ≢ 4 → RowRead spell_factors factors_row Star bytes from next old two list (few + 1)
@@ -199,12 +199,12 @@ joined_spelled : (minus : Bool) (s : Terms) (t : Factors) (more : List Token)
 joined_spelled true s t more = refl
 joined_spelled false s t more = refl
 
-joined_asks : (minus : Bool) (s : Terms) (t : Factors) (n : ℕ) → (last_appended n (terms_next minus n s t)).asks ≡ terms_asks n (joined minus s t)
+pub joined_asks : (minus : Bool) (s : Terms) (t : Factors) (n : ℕ) → (last_appended n (terms_next minus n s t)).asks ≡ terms_asks n (joined minus s t)
 unfolding terms_asks
 joined_asks true s t n = refl
 joined_asks false s t n = refl
 
-joined_row : (minus : Bool) (s : Terms) (t : Factors) (n : ℕ) → four_appended n (terms_next minus n s t) ≡ terms_row n (joined minus s t)
+pub joined_row : (minus : Bool) (s : Terms) (t : Factors) (n : ℕ) → four_appended n (terms_next minus n s t) ≡ terms_row n (joined minus s t)
 unfolding terms_row
 joined_row true s t n = refl
 joined_row false s t n = refl
@@ -221,16 +221,16 @@ module _ {bytes : List ℕ} where
 
   module _ {from here stop few : ℕ} {old one mid : View} {list : Vec Node} (minus : Bool)
       (r : RowRead spell_terms terms_row (sign_of minus) bytes from here old one list few) (k : TermRan bytes here stop one mid) where
-    terms_spelled : spelled_at bytes from ≡ spell_terms (joined minus r.part k.part) (spelled_at bytes stop)
+    pub terms_spelled : spelled_at bytes from ≡ spell_terms (joined minus r.part k.part) (spelled_at bytes stop)
     terms_spelled = r.tokens_are ∙ ap (λ (ts : List Token). spell_terms r.part (sign_of minus ∷ ts)) k.tokens_are
         ∙ joined_spelled minus r.part k.part (spelled_at bytes stop)
 
-    sign_spelled : {next : ℕ} (less : Bool) → IsTokenAt bytes stop (sign_of less) next
+    pub sign_spelled : {next : ℕ} (less : Bool) → IsTokenAt bytes stop (sign_of less) next
         → spelled_at bytes from ≡ spell_terms (joined minus r.part k.part) (sign_of less ∷ spelled_at bytes next)
     sign_spelled less t = terms_spelled ∙ ap (spell_terms (joined minus r.part k.part)) (token_spelled t)
 
     module _ {two : View} (b : Block) (sign : Signed minus b mid two) where
-      terms_child : IsRow (λ n. terms_next minus n r.part k.part) old two list (few + 1)
+      pub terms_child : IsRow (λ n. terms_next minus n r.part k.part) old two list (few + 1)
       terms_child = row_child (λ n. terms_row n r.part) (λ n. signed_asks minus (factors_asks n k.part)) r.is_row
           (signed_ran b minus k.part k.ran sign)
 

@@ -2,9 +2,10 @@
 use Rattle.std.proofs.Common.{◌≡◌, ℕ, zero, suc, ◌+◌, ◌*◌, ◌<◌, refl, sym, ap, ◌∙◌, subst, arith, inl, inr, Option, Some, None, List, [], ◌∷◌, ◌++◌, length, length-append, append-nil}
 use Rattle.std.specs.Prelude.{slice_get}
 use Rattle.arena_chunks.specs.Source.{View}
+use Rattle.arena_chunks.specs.Answers.{Answer}
 use Rattle.arena_chunks.specs.Answers.Answer.{Placed}
 use Rattle.arena_store.specs.declared.block.Block.{Block}
-use Rattle.arena_items.specs.Asks.{Ask, NoBlock, Fresh, Larger, first_or_larger, room_ask, Runs, Asked, TakesBlock, solid}
+use Rattle.arena_items.specs.Asks.{Ask, NoBlock, Fresh, Larger, first_or_larger, room_ask, meant, Runs, EndsAt, Asked, TakesBlock, solid}
 use Rattle.arena_items.specs.Room.{SamePlaces, capacity_after}
 use Rattle.arena_items.specs.declared.room.Growth.{Growth}
 use Rattle.arena_items.specs.declared.room.Growth.TheVariants.{Stays, GrowsTo, Overflows}
@@ -100,6 +101,13 @@ ran_same {old} {mid} {new} asks k same = record {
   later = k.later;
   runs = λ blocks. runs_same (asks (length blocks)) blocks (k.later blocks) old mid new (k.runs blocks) same;
 }
+
+-- one that has no place
+pub one_ends : {old new : View} {answer : Answer} (ask : Ask ℕ) (blocks : List Block) → Asked (meant blocks ask) old new answer
+    → EndsAt (ask ∷ []) blocks old new answer
+unfolding Runs
+one_ends {old} ask blocks asked =
+    record { n = 0; ask = ask; next = refl; later = blocks; mid = old; ran = (refl, still old); asked = asked }
 
 -- ---- Lists
 

@@ -1,14 +1,17 @@
 -- What a copy of a tree in another arena returns, and what it takes.
-use Rattle.std.specs.Prelude.{ℕ, ◌+◌, ◌*◌, ◌⊎◌, List, [], ◌∷◌, length, Result, Ok, Err}
+use Rattle.std.specs.Prelude.{ℕ, ◌+◌, ◌*◌, List, [], ◌∷◌, ◌++◌, length, Result, Ok, Err}
 use Rattle.arena_chunks.specs.Source.{View}
 use Rattle.arena_chunks.specs.Frame.{Frame}
 use Rattle.tree_rules.specs.Trees.{Expr, Num, Name, Neg, Sum, Prod, Exprs, NoExprs, And, Stmt, Let, Show, Stmts, NoStmts, Then}
 use Rattle.tree_rules.specs.Trees as tree
-use Rattle.arena_items.specs.Denied.{Layouts, TextOf}
+use Rattle.arena_chunks.specs.Answers.Answer.{Refused as NotPlaced, Exhausted}
+use Rattle.arena_store.specs.declared.block.Block.{Block}
+use Rattle.arena_items.specs.Asks.{Ask, Fresh, Runs, EndsAt, refusal}
+use Rattle.arena_items.specs.declared.room.AllocError.{AllocError}
 use Rattle.arena_tree.specs.Counts.{below, below_stmt, stmt_nodes}
 use Rattle.arena_tree.specs.StmtsAt.{AreBuilt}
 use Rattle.arena_tree.specs.Subtrees.{Subtree, OfExpr, OfStmt, expr_row, stmt_row}
-use Rattle.arena_tree.specs.Layouts.{ListOf}
+use Rattle.arena_tree.specs.Asking.{Ran, list_ask}
 use Rattle.arena_tree.specs.Parsing.{IsShortOf}
 use Rattle.arena_tree.specs.declared.tree.Tree.{Tree}
 use Rattle.arena_tree.specs.declared.tree.TreeErr.{TreeErr}
@@ -50,49 +53,64 @@ abbrev pub row_bytes : List Subtree → ℕ
 row_bytes [] = 0
 row_bytes (t ∷ ts) = 128 + below_bytes t + row_bytes ts
 
--- what the copy of a tree asks for: the bytes of each name, and for each list one with room for its nodes and no more
+-- what the copy of a tree asks for, in order: the bytes of each name, and for each list one with room for its nodes and no
+-- more
 abbrev mutual
-  pub CopyOf : Expr → Layouts
-  CopyOf (Num n) size align = ⊥
-  CopyOf (Name bytes) size align = TextOf (length bytes) size align
-  CopyOf (Neg e) size align = ListOf 1 size align ⊎ CopyOf e size align
-  CopyOf (Sum kids) size align = ListOf (length (expr_row kids)) size align ⊎ CopiesOf kids size align
-  CopyOf (Prod kids) size align = ListOf (length (expr_row kids)) size align ⊎ CopiesOf kids size align
+  pub copy_asks : Expr → List (Ask ℕ)
+  copy_asks (Num n) = []
+  copy_asks (Name bytes) = Fresh (length bytes) 1 ∷ []
+  copy_asks (Neg e) = list_ask 1 ∷ copy_asks e
+  copy_asks (Sum kids) = list_ask (length (expr_row kids)) ∷ copies_asks kids
+  copy_asks (Prod kids) = list_ask (length (expr_row kids)) ∷ copies_asks kids
 
-  pub CopiesOf : Exprs → Layouts
-  CopiesOf NoExprs size align = ⊥
-  CopiesOf (And e rest) size align = CopyOf e size align ⊎ CopiesOf rest size align
+  pub copies_asks : Exprs → List (Ask ℕ)
+  copies_asks NoExprs = []
+  copies_asks (And e rest) = copy_asks e ++ copies_asks rest
 
 abbrev mutual
-  pub StmtCopyOf : Stmt → Layouts
-  StmtCopyOf (Let name e) size align = TextOf (length name) size align ⊎ (ListOf 1 size align ⊎ CopyOf e size align)
-  StmtCopyOf (Show e) size align = ListOf 1 size align ⊎ CopyOf e size align
-  StmtCopyOf (tree.Block body) size align = ListOf (length (stmt_row body)) size align ⊎ StmtsCopyOf body size align
+  pub stmt_copy_asks : Stmt → List (Ask ℕ)
+  stmt_copy_asks (Let name e) = Fresh (length name) 1 ∷ list_ask 1 ∷ copy_asks e
+  stmt_copy_asks (Show e) = list_ask 1 ∷ copy_asks e
+  stmt_copy_asks (tree.Block body) = list_ask (length (stmt_row body)) ∷ stmts_copy_asks body
 
-  pub StmtsCopyOf : Stmts → Layouts
-  StmtsCopyOf NoStmts size align = ⊥
-  StmtsCopyOf (Then s rest) size align = StmtCopyOf s size align ⊎ StmtsCopyOf rest size align
+  pub stmts_copy_asks : Stmts → List (Ask ℕ)
+  stmts_copy_asks NoStmts = []
+  stmts_copy_asks (Then s rest) = stmt_copy_asks s ++ stmts_copy_asks rest
 
-abbrev pub TreeCopyOf : Stmts → Layouts
-TreeCopyOf trees size align = ListOf (length (stmt_row trees)) size align ⊎ StmtsCopyOf trees size align
+abbrev pub tree_copy_asks : Stmts → List (Ask ℕ)
+tree_copy_asks trees = list_ask (length (stmt_row trees)) ∷ stmts_copy_asks trees
 
 -- that of what is below one node, and of a list of nodes
-abbrev pub BelowCopyOf : Subtree → Layouts
-BelowCopyOf (OfExpr e) = CopyOf e
-BelowCopyOf (OfStmt s) = StmtCopyOf s
+abbrev pub below_asks : Subtree → List (Ask ℕ)
+below_asks (OfExpr e) = copy_asks e
+below_asks (OfStmt s) = stmt_copy_asks s
 
-abbrev pub KidsCopyOf : List Subtree → Layouts
-KidsCopyOf [] size align = ⊥
-KidsCopyOf (t ∷ ts) size align = BelowCopyOf t size align ⊎ KidsCopyOf ts size align
+abbrev pub kids_asks : List Subtree → List (Ask ℕ)
+kids_asks [] = []
+kids_asks (t ∷ ts) = below_asks t ++ kids_asks ts
 
-abbrev pub RowCopyOf : List Subtree → Layouts
-RowCopyOf ts size align = ListOf (length ts) size align ⊎ KidsCopyOf ts size align
+abbrev pub row_asks : List Subtree → List (Ask ℕ)
+row_asks ts = list_ask (length ts) ∷ kids_asks ts
+
+-- All of these were asked for, one after another, and placed; or they were up to one, which has no place.
+abbrev pub AsksAll : {X : Type 0} → List (Ask ℕ) → View → View → Result X AllocError → Type 0
+AsksAll asks old new (Ok x) = Ran (λ n. asks) old new
+AsksAll asks old new (Err e) = (blocks : List Block) → EndsAt asks blocks old new (refusal e)
+
+-- the same of the whole copy
+abbrev pub CopyAsks : Stmts → View → View → Result Tree TreeErr → Type 0
+CopyAsks trees old new (Ok t) = (later : List Block) × Runs (tree_copy_asks trees) [] old later new
+CopyAsks trees old new (Err (AllocErr k)) = EndsAt (tree_copy_asks trees) [] old new (NotPlaced k)
+CopyAsks trees old new (Err OutOfMemory) = EndsAt (tree_copy_asks trees) [] old new Exhausted
+CopyAsks trees old new (Err (Syntax at)) = ⊥
+CopyAsks trees old new (Err (TooDeep at)) = ⊥
+CopyAsks trees old new (Err (NumberTooBig at)) = ⊥
 
 -- A tree is placed that means these statements, on blocks that were free and are apart from each other, or a block of
 -- it is refused. No text is judged, so none is refused.
 abbrev pub Clones : Stmts → View → View → Result Tree TreeErr → Type 0
 Clones trees old new (Ok t) = AreBuilt trees old.memory new.memory t.stmts
-Clones trees old new (Err (AllocErr k)) = IsShortOf (TreeCopyOf trees) (clone_bytes trees) k old new × Frame old.memory new.memory [] []
+Clones trees old new (Err (AllocErr k)) = IsShortOf (clone_bytes trees) k old new × Frame old.memory new.memory [] []
 Clones trees old new (Err OutOfMemory) = Frame old.memory new.memory [] []
 Clones trees old new (Err (Syntax at)) = ⊥
 Clones trees old new (Err (TooDeep at)) = ⊥

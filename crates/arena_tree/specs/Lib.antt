@@ -10,10 +10,10 @@ pub mod Parts
 pub mod LineParts
 pub mod Printing
 pub mod Given
-pub mod Layouts
 pub mod Spending
 pub mod Stops
 pub mod Asking
+pub mod Stopping
 pub mod Parsing
 pub mod Cloning
 pub mod Folding

@@ -2,9 +2,9 @@
 ghost use Rattle.std.specs.Prelude.{List, IfOk};
 ghost use Rattle.arena_vec.specs.Vecs.{vec_list};
 ghost use Rattle.arena_tree.specs.TreesAt.{node_item};
-ghost use Rattle.arena_tree.specs.Spending.{Spends, error_of};
+ghost use Rattle.arena_tree.specs.Spending.{AnyBlock, Spends, error_of};
 ghost use Rattle.arena_tree.specs.Subtrees.{Subtree, SubtreeAt, RowAt, HasTree, HasRow, IsTreePlaced, IsRowBuilt};
-ghost use Rattle.arena_tree.specs.Cloning.{below_bytes, row_bytes, BelowCopyOf, RowCopyOf};
+ghost use Rattle.arena_tree.specs.Cloning.{below_bytes, row_bytes, AsksAll, below_asks, row_asks};
 
 use arena_chunks::{Allocator, ChunkSource};
 use arena_items::Grown;
@@ -22,7 +22,8 @@ fn clone_node<C: ChunkSource, D: ChunkSource>(
     ensures tree { (t : Subtree) → SubtreeAt t from.now.memory node
         → IfOk result (IsTreePlaced t to.old.memory to.new.memory) }
     ensures spends { (t : Subtree) → SubtreeAt t from.now.memory node
-        → Spends (BelowCopyOf t) (below_bytes t) 0 0 to.old to.new (error_of result) }
+        → Spends AnyBlock (below_bytes t) 0 0 to.old to.new (error_of result) }
+    ensures asks { (t : Subtree) → SubtreeAt t from.now.memory node → AsksAll (below_asks t) to.old to.new result }
 {
     match node.kind {
         Kind::Num => Ok(number(node.number)),
@@ -54,7 +55,9 @@ pub(crate) fn clone_row<C: ChunkSource, D: ChunkSource>(
     ensures trees { (ts : List Subtree) → RowAt ts from.now.memory (vec_list node_item from.now.memory nodes)
         → IfOk result (IsRowBuilt ts to.old.memory to.new.memory) }
     ensures spends { (ts : List Subtree) → RowAt ts from.now.memory (vec_list node_item from.now.memory nodes)
-        → Spends (RowCopyOf ts) (row_bytes ts) 0 0 to.old to.new (error_of result) }
+        → Spends AnyBlock (row_bytes ts) 0 0 to.old to.new (error_of result) }
+    ensures asks { (ts : List Subtree) → RowAt ts from.now.memory (vec_list node_item from.now.memory nodes)
+        → AsksAll (row_asks ts) to.old to.new result }
 {
     let mut list = roomy(to, nodes.len())?;
     let mut i = 0;

@@ -4,6 +4,7 @@ ghost use Rattle.arena_chunks.specs.Source.{View};
 ghost use Rattle.tree_rules.specs.Refusals.{most_nest};
 ghost use Rattle.arena_tree.specs.Parts.{IsStart, IsFactor, IsTerm, IsTerms, NoFactorIn, NoTermsIn};
 ghost use Rattle.arena_tree.specs.Asking.{FactorRan, TermRan, TermsRan, FirstFactorRan, FirstTermRan};
+ghost use Rattle.arena_tree.specs.Stopping.{FactorEnds, TermEnds, ExprEnds};
 ghost use Rattle.arena_tree.specs.Spending.{SpendsUpTo, IsFirstFactor, IsFirstTerm};
 ghost use Rattle.arena_tree.specs.Stops.{OnText};
 
@@ -31,6 +32,7 @@ fn factor<C: ChunkSource>(
     ensures tree { IfOk result (λ end. IsFactor deep src.now at end a.old.memory a.new.memory node.new) }
     ensures spends { SpendsUpTo at src.now a.old a.new result }
     ensures ran { IfOk result (λ end. FactorRan src.now at end a.old a.new) }
+    ensures ends { FactorEnds src.now at a.old a.new result }
     ensures text { OnText result (NoFactorIn deep src.now at) }
 {
     match start_at(src, at) {
@@ -65,6 +67,7 @@ fn minus<C: ChunkSource>(
     ensures tree { IfOk result (λ end. IsFactor deep src.now at end a.old.memory a.new.memory node.new) }
     ensures spends { SpendsUpTo at src.now a.old a.new result }
     ensures ran { IfOk result (λ end. FactorRan src.now at end a.old a.new) }
+    ensures ends { FactorEnds src.now at a.old a.new result }
     ensures text { OnText result (NoFactorIn deep src.now at) }
 {
     if deep == MOST_OPEN {
@@ -92,6 +95,7 @@ fn paren<C: ChunkSource>(
     ensures tree { IfOk result (λ end. IsFactor deep src.now at end a.old.memory a.new.memory node.new) }
     ensures spends { SpendsUpTo at src.now a.old a.new result }
     ensures ran { IfOk result (λ end. FactorRan src.now at end a.old a.new) }
+    ensures ends { FactorEnds src.now at a.old a.new result }
     ensures text { OnText result (NoFactorIn deep src.now at) }
 {
     if deep == MOST_OPEN {
@@ -118,6 +122,7 @@ fn term<C: ChunkSource>(
     ensures tree { IfOk result (λ end. IsTerm deep src.now at end a.old.memory a.new.memory node.new) }
     ensures spends { SpendsUpTo at src.now a.old a.new result }
     ensures ran { IfOk result (λ end. TermRan src.now at end a.old a.new) }
+    ensures ends { TermEnds src.now at a.old a.new result }
     ensures text { OnText result (NoTermsIn deep src.now at) }
 {
     let end = factor(a, src, at, deep, node)?;
@@ -152,6 +157,7 @@ fn factors<C: ChunkSource>(
         → SpendsUpTo from src.now old a.new result }
     ensures ran { (from : ℕ) (old : View) → FirstFactorRan src.now from at old a.old
         → IfOk result (λ end. TermRan src.now from end old a.new) }
+    ensures ends { (from : ℕ) (old : View) → FirstFactorRan src.now from at old a.old → TermEnds src.now from old a.new result }
     ensures text { (from : ℕ) (old : View) → IsFirstFactor deep src.now from at old a.old node.old
         → OnText result (NoTermsIn deep src.now from) }
 {
@@ -189,6 +195,7 @@ pub(crate) fn expr<C: ChunkSource>(
     ensures tree { IfOk result (λ end. IsTerms deep src.now at end a.old.memory a.new.memory node.new) }
     ensures spends { SpendsUpTo at src.now a.old a.new result }
     ensures ran { IfOk result (λ end. TermsRan src.now at end a.old a.new) }
+    ensures ends { ExprEnds src.now at a.old a.new result }
     ensures text { OnText result (NoTermsIn deep src.now at) }
 {
     let end = term(a, src, at, deep, node)?;
@@ -218,6 +225,7 @@ fn terms<C: ChunkSource>(
         → SpendsUpTo from src.now old a.new result }
     ensures ran { (from : ℕ) (old : View) → FirstTermRan first src.now from at old a.old
         → IfOk result (λ end. TermsRan src.now from end old a.new) }
+    ensures ends { (from : ℕ) (old : View) → FirstTermRan first src.now from at old a.old → ExprEnds src.now from old a.new result }
     ensures text { (from : ℕ) (old : View) → IsFirstTerm first deep src.now from at old a.old node.old
         → OnText result (NoTermsIn deep src.now from) }
 {

@@ -1,15 +1,17 @@
 // Statements.
-ghost use Rattle.std.specs.Prelude.{◌≡◌, ℕ, ◌^◌, ◌≤◌, None, length, slice_range, IfOk};
-ghost use Rattle.tree_rules.specs.Grammar.{spell};
+ghost use Rattle.std.specs.Prelude.{◌≡◌, ℕ, ◌^◌, ◌≤◌, None, [], length, slice_range, IfOk};
+ghost use Rattle.arena_items.specs.Asks.{EndsAt};
+ghost use Rattle.tree_rules.specs.Grammar.{Program, spell};
 ghost use Rattle.tree_rules.specs.Reading.{refusal_of};
 ghost use Rattle.tree_rules.specs.Refusals.{most_nest};
-ghost use Rattle.tree_rules.specs.Tokens.{Word, LeftBrace};
+ghost use Rattle.tree_rules.specs.Tokens.{Word, LeftBrace, tokens, without_places};
 ghost use Rattle.tree_reader.specs.Seen.{tokens_at};
 ghost use Rattle.arena_tree.specs.Parts.{IsTokenAt};
 ghost use Rattle.arena_tree.specs.LineParts.{IsLet, IsLine, AreLines, LineOrStop, LinesStop, ExprStarts, NoLineIn, IsProgramRead};
 ghost use Rattle.arena_tree.specs.Asking.{HasRun, LineRan, LineRanOrNot, ProgramRan, program_asks};
+ghost use Rattle.arena_tree.specs.Stopping.{LineEnds, LinesEnd};
 ghost use Rattle.arena_tree.specs.Spending.{SpendsUpTo, SpendsAll, SpendsOrNot, SpendsWhole};
-ghost use Rattle.arena_tree.specs.Stops.{OnText};
+ghost use Rattle.arena_tree.specs.Stops.{OnText, OnArena};
 
 use crate::begin::{LineStart, brace_at, line_at, semicolon_at};
 use crate::exprs::expr;
@@ -42,6 +44,7 @@ fn let_line<C: ChunkSource>(
     ensures tree { IfOk result (λ end. IsLine deep src.now at end a.old.memory a.new.memory node.new) }
     ensures spends { SpendsUpTo at src.now a.old a.new result }
     ensures ran { IfOk result (λ end. LineRan src.now at end a.old a.new) }
+    ensures ends { LineEnds src.now at a.old a.new result }
     ensures text { OnText result (NoLineIn deep src.now at) }
 {
     let name = place_name(a, &src[begin..end])?;
@@ -68,6 +71,7 @@ fn show_line<C: ChunkSource>(
     ensures tree { IfOk result (λ end. IsLine deep src.now at end a.old.memory a.new.memory node.new) }
     ensures spends { SpendsUpTo at src.now a.old a.new result }
     ensures ran { IfOk result (λ end. LineRan src.now at end a.old a.new) }
+    ensures ends { LineEnds src.now at a.old a.new result }
     ensures text { OnText result (NoLineIn deep src.now at) }
 {
     let stop = expr(a, src, at, deep, node)?;
@@ -92,6 +96,7 @@ fn line<C: ChunkSource>(
     ensures tree { IfOk result (LineOrStop deep src.now at a.old.memory a.new.memory node.new) }
     ensures spends { SpendsOrNot at src.now a.old a.new result }
     ensures ran { IfOk result (LineRanOrNot src.now at a.old a.new) }
+    ensures ends { LineEnds src.now at a.old a.new result }
     ensures text { OnText result (NoLineIn deep src.now at) }
 {
     match line_at(src, at) {
@@ -128,6 +133,7 @@ fn block<C: ChunkSource>(
     ensures tree { IfOk result (λ end. IsLine deep src.now at end a.old.memory a.new.memory node.new) }
     ensures spends { SpendsUpTo at src.now a.old a.new result }
     ensures ran { IfOk result (λ end. LineRan src.now at end a.old a.new) }
+    ensures ends { LineEnds src.now at a.old a.new result }
     ensures text { OnText result (NoLineIn deep src.now at) }
 {
     if deep == MOST_OPEN {
@@ -155,6 +161,7 @@ fn lines<C: ChunkSource>(
         × LinesStop (tokens_at src.now r.1)) }
     ensures spends { SpendsAll at src.now a.old a.new result }
     ensures ran { IfOk result (λ r. HasRun spell program_asks src.now at r.1 a.old a.new) }
+    ensures ends { LinesEnd src.now at a.old a.new result }
     ensures text { OnText result (NoLineIn deep src.now at) }
 {
     let mut list = Vec::new_in();
@@ -177,6 +184,8 @@ pub(crate) fn program<C: ChunkSource>(a: &mut Allocator<C>, src: &[u8]) -> Parse
     ensures trees { IfOk result (IsProgramRead src.now a.old.memory a.new.memory) }
     ensures spends { SpendsWhole src.now a.old a.new result }
     ensures ran { IfOk result (λ list. ProgramRan src.now a.old a.new) }
+    ensures ends { (p : Program) → spell p [] ≡ without_places (tokens src.now)
+        → OnArena result (EndsAt (program_asks 0 p) [] a.old a.new) }
     ensures text { OnText result (refusal_of src.now ≡ None → ⊥) }
 {
     let (list, end) = lines(a, src, 0, 0)?;

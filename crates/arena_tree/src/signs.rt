@@ -5,7 +5,7 @@ ghost use Rattle.tree_rules.specs.Trees.{Expr, Neg};
 ghost use Rattle.arena_items.specs.Asks.{Fresh};
 ghost use Rattle.arena_tree.specs.TreesAt.{IsPlaced, kids_of};
 ghost use Rattle.arena_tree.specs.Asking.{AsksFor, AsksSign};
-ghost use Rattle.arena_tree.specs.Layouts.{ListOf};
+ghost use Rattle.tree_nodes.specs.Layouts.{ListOf};
 ghost use Rattle.arena_tree.specs.Parts.{signed_tree};
 ghost use Rattle.arena_tree.specs.Spending.{Spends, error_of, node_cost};
 

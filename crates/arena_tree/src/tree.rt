@@ -4,7 +4,7 @@ ghost use Rattle.tree_rules.specs.Reading.{refusal_of};
 ghost use Rattle.arena_tree.specs.declared.stop.Stop.{Stop};
 ghost use Rattle.tree_rules.specs.Trees.{Stmts, text};
 ghost use Rattle.arena_tree.specs.Asking.{ProgramRan};
-ghost use Rattle.arena_tree.specs.Cloning.{Clones, clone_bytes};
+ghost use Rattle.arena_tree.specs.Cloning.{Clones, CopyAsks, clone_bytes};
 ghost use Rattle.arena_tree.specs.Given.{IsTreeIn, IsLeanTree, Means};
 ghost use Rattle.arena_tree.specs.Folding.{Folds};
 ghost use Rattle.arena_tree.specs.Parsing.{Parses, ParsesInOnePass, TakesAtMost, parse_bytes, error_for, unplaced_by};
@@ -159,6 +159,7 @@ impl Tree {
     ) -> Result<Tree, TreeErr>
         requires { IsTreeIn from.now.memory self.now }
         ensures clones { (trees : Stmts) → Means from.now.memory self.now trees → Clones trees to.old to.new result }
+        ensures asks { (trees : Stmts) → Means from.now.memory self.now trees → CopyAsks trees to.old to.new result }
         ensures tree { IfOk result (IsTreeIn to.new.memory) }
         ensures lean { IfOk result (IsLeanTree to.new.memory) }
         ensures bytes { (trees : Stmts) → Means from.now.memory self.now trees

@@ -3,7 +3,7 @@ pub mod StepLemmas
 pub mod Holes
 pub mod ProgramPlaces
 pub mod Places
-mod Readings
+pub mod Readings
 mod FirstTokens
 mod RefusalLemmas
 pub mod TokenLemmas

@@ -6,7 +6,8 @@ use Rattle.tree_rules.specs.Tokens.{Token, LetKey, Word, Number, Plus, Minus, St
 use Rattle.tree_rules.specs.Grammar.{Factor, ANumber, AName, InParens, Negated, Factors, OneFactor, Times, Terms, OneTerm, Added, Taken, Line, LetLine, ShowLine, BlockLine, Empty, Next, spell_factor, spell_factors, spell_terms, spell_line, factor_nest, factors_nest, terms_nest, line_nest}
 use Rattle.tree_rules.specs.declared.machine.Mode.TheVariants.{AtLine, AtName, AtEquals, AtFactor, BehindFactor}
 use Rattle.tree_rules.specs.Reading.{State, state, signs_ended, step, step_in, factor_step, close_paren, close_brace, end_line}
-use Rattle.tree_rules.proofs.Holes.{LineHole, InProgram, InBlock, Owner, LetOf, ShowOf, FactorHole, First, Behind, Signed, TermHole, FirstTerm, ToAdd, ToTake, ExprHole, Within, Of, before_line, owner_tokens, before_factor, before_term, before_expr, open_at_line, open_at_factor, open_at_term, open_at_expr, LineFits, FactorFits, TermFits, ExprFits, owned}
+use Rattle.tree_rules.specs.Places.{LineHole, InProgram, InBlock, Owner, LetOf, ShowOf, FactorHole, First, Behind, Signed, TermHole, FirstTerm, ToAdd, ToTake, ExprHole, Within, Of, before_line, owner_tokens, before_factor, before_term, before_expr}
+use Rattle.tree_rules.proofs.Holes.{open_at_line, open_at_factor, open_at_term, open_at_expr, LineFits, FactorFits, TermFits, ExprFits, owned}
 
 -- the place up to which a program has been read
 pub data Place : Type 0 where

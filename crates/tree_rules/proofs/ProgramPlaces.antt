@@ -4,7 +4,8 @@ use Rattle.std.proofs.Common.{◌≡◌, ℕ, ◌≤◌, Some, List, [], ◌∷�
 use Rattle.tree_rules.specs.Tokens.{Token, Word, Number, Equals, Semicolon}
 use Rattle.tree_rules.specs.Grammar.{ANumber, OneFactor, Terms, OneTerm, LetLine, Program, Empty, spell, nest, BeginsWithin}
 use Rattle.tree_rules.specs.Reading.{State, step, start}
-use Rattle.tree_rules.proofs.Holes.{InProgram, fill_line, fill_factor, fill_term, close_line, close_factor, close_term, done, line_filled, done_spelled, factor_filled, term_filled, line_fits, done_fits, factor_fits, term_fits}
+use Rattle.tree_rules.specs.Places.{InProgram}
+use Rattle.tree_rules.proofs.Holes.{fill_line, fill_factor, fill_term, close_line, close_factor, close_term, done, line_filled, done_spelled, factor_filled, term_filled, line_fits, done_fits, factor_fits, term_fits}
 use Rattle.tree_rules.proofs.Places.{Place, LinePlace, NamePlace, EqualsPlace, FactorPlace, BehindPlace, state_at, before, PlaceFits, follows}
 
 -- ---- Each place is in a program

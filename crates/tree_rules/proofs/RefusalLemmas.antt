@@ -16,7 +16,7 @@ use Rattle.tree_rules.specs.Reading.{State, state, step, start, is_too_big, or_r
 use Rattle.tree_rules.specs.declared.refused.Refused.{Refused}
 use Rattle.tree_rules.specs.declared.refused.Refused.TheVariants.{Syntax, TooDeep, NumberTooBig}
 use Rattle.tree_rules.proofs.StepLemmas.{goes, goes_step}
-use Rattle.tree_rules.proofs.Holes.{InProgram, InBlock}
+use Rattle.tree_rules.specs.Places.{InProgram, InBlock}
 use Rattle.tree_rules.proofs.Places.{Place, LinePlace, state_at, before, PlaceFits}
 use Rattle.tree_rules.proofs.ProgramPlaces.{leads_begin}
 use Rattle.tree_rules.proofs.Readings.{one_program}

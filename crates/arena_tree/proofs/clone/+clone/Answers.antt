@@ -1,14 +1,18 @@
 use Rattle.std.proofs.lemmas.Bool.Decides.{nat_tests}
-use Rattle.std.proofs.Common.{rules, ◌≡◌, ◌*◌, ◌∙◌, ap, sym, inl, inr, add-one, arith, [], ◌∷◌}
+use Rattle.std.proofs.Common.{rules, ◌≡◌, ◌∙◌, ap, sym, inl, inr, add-one, arith, suc, refl, None, [], ◌∷◌, length, drop}
 use Rattle.arena_tree.specs.Subtrees.{has_kids, HasRow}
 use Rattle.tree_nodes.proofs.WalkLemmas.{list_len}
-use Rattle.tree_nodes.proofs.SpendingLemmas.{frees, err_spends, asks_of, asks_any}
-use Rattle.arena_tree.proofs.CopyLayoutLemmas.{kid_copy, kids_copy, text_copy}
+use Rattle.tree_nodes.proofs.SpendingLemmas.{frees, err_spends, asks_any}
+use Rattle.arena_tree.proofs.PartCostLemmas.{any_block}
 use Rattle.tree_nodes.proofs.BlockCostLemmas.{spends_same}
 use Rattle.tree_nodes.proofs.SubtreeLemmas.{kids_it, kids_at, row_length}
 use Rattle.tree_nodes.proofs.RowLemmas.{rows_held, gathered_one, kid_of, kid_can, row_whole}
 use Rattle.arena_tree.proofs.CloneLemmas.{more_kinds, number_copied, name_copied, let_copied, kids_copied, text_of, row_at, has_row}
 use Rattle.arena_tree.proofs.CloneCostLemmas.{forget, row_room, row_kid, part_spends, both_spend}
+use Rattle.arena_items.proofs.Layers.{still, ends_sooner}
+use Rattle.arena_tree.specs.Cloning.{kids_asks, row_asks}
+use Rattle.arena_tree.proofs.RunLemmas.{ran_nothing, ran_block, ran_then, one_ends}
+use Rattle.arena_tree.proofs.CloneAskLemmas.{split_asks, number_asks, name_asks, let_asks, list_asks, list_ran, list_ends, ran_more, ran_is, err_asks, ends_behind}
 use Rattle.arena_tree.proofs.clone.+clone.Goals as goal
 
 -- ---- A number, a name
@@ -28,7 +32,7 @@ clone_node-returns-in_ok-name-in-Name-clause-spends g t c = grind (arith, nat_te
 
 pub clone_node-returns-in_err-name-in-Name-clause-spends : goal.clone_node-returns-in_err-name-in-Name-clause-spends
 clone_node-returns-in_err-name-in-Name-clause-spends g t c = λ tree at.
-    err_spends _ _ c.from_residual.ensures (asks_of (text_copy tree _ _ at (inl c.in-Name.is))
+    err_spends _ _ c.from_residual.ensures (any_block
     (part_spends tree (omega (arith, (text_of _ _ tree at (inl c.in-Name.is)).1)) c.in_err-name-in-Name.ensures.spends))
 
 -- ---- A definition
@@ -56,16 +60,15 @@ clone_node-returns-in_ok-value-in-Let-clause-spends g t c = λ tree at.
 
 pub clone_node-returns-in_err-name-in-Let-clause-spends : goal.clone_node-returns-in_err-name-in-Let-clause-spends
 clone_node-returns-in_err-name-in-Let-clause-spends g t c = λ tree at.
-    err_spends _ _ c.from_residual-in_err-name-in-Let.ensures (asks_of (text_copy tree _ _ at (inr c.in-Let.is))
+    err_spends _ _ c.from_residual-in_err-name-in-Let.ensures (any_block
     (part_spends tree (omega (arith, (text_of _ _ tree at (inr c.in-Let.is)).1)) c.in_err-name-in-Let.ensures.spends))
 
 pub clone_node-returns-in_err-value-in-Let-clause-spends : goal.clone_node-returns-in_err-value-in-Let-clause-spends
 clone_node-returns-in_err-value-in-Let-clause-spends g t c = λ tree at.
     let text = c.in_ok-name-in-Let.ensures in
     err_spends _ _ c.from_residual-in_err-value-in-Let.ensures
-    (asks_of (kids_copy tree _ _ at (ap has_kids c.in-Let.is))
     (both_spend tree (text_of _ _ tree at (inr c.in-Let.is)).1 text.spends (frees text.frame)
-    (c.in_err-value-in-Let.ensures.spends (kids_it tree) (row_at _ _ _ (ap has_kids c.in-Let.is) c.kids.ensures tree at))))
+    (c.in_err-value-in-Let.ensures.spends (kids_it tree) (row_at _ _ _ (ap has_kids c.in-Let.is) c.kids.ensures tree at)))
 
 -- ---- The other nodes
 
@@ -92,13 +95,15 @@ clone_node-returns-in_ok-list-in_default g t c =
           c.with_kids.ensures.rest;
       spends = λ tree at. asks_any
           (part_spends tree (omega arith) (list.spends (kids_it tree) (row_at _ _ _ more c.kids-in_default.ensures tree at)));
+      asks = λ tree at. ran_is (list_asks _ _ tree at d.not-Num d.not-Name d.not-Let)
+          (list.asks (kids_it tree) (row_at _ _ _ more c.kids-in_default.ensures tree at));
     }
 
 pub clone_node-returns-in_err-list-in_default-clause-spends : goal.clone_node-returns-in_err-list-in_default-clause-spends
 clone_node-returns-in_err-list-in_default-clause-spends g t c = λ tree at.
     let more = more_kinds c.args.node.kind c.in_default.not-Num c.in_default.not-Name in
-    err_spends _ _ c.from_residual-in_err-list-in_default.ensures (asks_of (kids_copy tree _ _ at more) (part_spends tree (omega arith)
-    (c.in_err-list-in_default.ensures.spends (kids_it tree) (row_at _ _ _ more c.kids-in_default.ensures tree at))))
+    err_spends _ _ c.from_residual-in_err-list-in_default.ensures (part_spends tree (omega arith)
+    (c.in_err-list-in_default.ensures.spends (kids_it tree) (row_at _ _ _ more c.kids-in_default.ensures tree at)))
 
 -- ---- A list of nodes
 
@@ -112,6 +117,9 @@ clone_row-loop-i-init g t c =
       built = λ ts at. room.row;
       spends = λ ts at. asks_any
           (row_room ts _ _ _ at (list_len c.args.from.now.memory c.args.nodes ∙ sym c.len.ensures) room.spends);
+      asks = λ ts at.
+          let many = row_length ts _ _ at ∙ list_len c.args.from.now.memory c.args.nodes ∙ sym c.len.ensures in
+          list_ran _ (length ts) _ many room.asks;
     }
 
 pub clone_row-clone_node-requires : goal.clone_row-clone_node-requires
@@ -138,6 +146,9 @@ clone_row-loop-i-preserved g t c =
           let k = kid_of ts _ _ c.loop-i.i _ at c.get-node.ensures in
           rw add-one (asks_any (spends_same put.places (row_kid ts _ c.loop-i.i _ k (frees (i.built ts at).frame)
           (c.in_ok-copy.ensures.spends k.tree k.stands) (i.spends ts at))));
+      asks = λ ts at.
+          let k = kid_of ts _ _ c.loop-i.i _ at c.get-node.ensures in
+          rw add-one (ran_more ts c.loop-i.i k.tree k.front (i.asks ts at) (c.in_ok-copy.ensures.asks k.tree k.stands) put.places);
     }
 
 pub clone_row-returns-clause-trees : goal.clone_row-returns-clause-trees
@@ -149,12 +160,66 @@ clone_row-returns-clause-spends g t c = λ ts at. forget (c.loop-i.invariant.spe
 pub clone_row-returns-in_err-list-clause-spends : goal.clone_row-returns-in_err-list-clause-spends
 clone_row-returns-in_err-list-clause-spends g t c = λ ts at.
     let len = list_len c.args.from.now.memory c.args.nodes ∙ sym c.len.ensures in
-    err_spends _ _ c.from_residual.ensures (asks_of (λ size align h. inl (h.0 ∙ ap (λ n. n * 88) (sym (row_length ts _ _ at ∙ len)), h.1))
+    err_spends _ _ c.from_residual.ensures (any_block
     (forget (row_room ts _ _ _ at len c.in_err-list.ensures.spends)))
 
 pub clone_row-returns-in_err-copy-clause-spends : goal.clone_row-returns-in_err-copy-clause-spends
 clone_row-returns-in_err-copy-clause-spends g t c = λ ts at.
     let i = c.loop-i.invariant in
     let k = kid_of ts _ _ c.loop-i.i _ at c.get-node.ensures in
-    err_spends _ _ c.from_residual-in_err-copy.ensures (asks_of (kid_copy ts c.loop-i.i k.tree k.rest)
-    (forget (row_kid ts _ c.loop-i.i _ k (frees (i.built ts at).frame) (c.in_err-copy.ensures.spends k.tree k.stands) (i.spends ts at))))
+    err_spends _ _ c.from_residual-in_err-copy.ensures (forget (row_kid ts _ c.loop-i.i _ k (frees (i.built ts at).frame) (c.in_err-copy.ensures.spends k.tree k.stands) (i.spends ts at)))
+
+-- ---- What is asked for
+
+pub clone_node-returns-in-Num-clause-asks : goal.clone_node-returns-in-Num-clause-asks
+clone_node-returns-in-Num-clause-asks g t c = λ tree at.
+    ran_is (number_asks _ _ tree at c.in-Num.is) (ran_nothing (still c.args.to.now))
+
+pub clone_node-returns-in_ok-name-in-Name-clause-asks : goal.clone_node-returns-in_ok-name-in-Name-clause-asks
+clone_node-returns-in_ok-name-in-Name-clause-asks g t c = λ tree at.
+    ran_is (name_asks _ _ tree at c.in-Name.is) (ran_block _ _ None _ _ _ c.in_ok-name-in-Name.ensures.asks)
+
+pub clone_node-returns-in_err-name-in-Name-clause-asks : goal.clone_node-returns-in_err-name-in-Name-clause-asks
+clone_node-returns-in_err-name-in-Name-clause-asks g t c = λ tree at.
+    err_asks _ _ c.from_residual.ensures (name_asks _ _ tree at c.in-Name.is) (λ blocks. one_ends _ blocks c.in_err-name-in-Name.ensures.asks)
+
+pub clone_node-returns-in_ok-value-in-Let-clause-asks : goal.clone_node-returns-in_ok-value-in-Let-clause-asks
+clone_node-returns-in_ok-value-in-Let-clause-asks g t c = λ tree at.
+    ran_is (let_asks _ _ tree at c.in-Let.is) (ran_then _ _ (ran_block _ _ None _ _ _ c.in_ok-name-in-Let.ensures.asks)
+    (c.in_ok-value-in-Let.ensures.asks (kids_it tree) (row_at _ _ _ (ap has_kids c.in-Let.is) c.kids.ensures tree at)))
+
+pub clone_node-returns-in_err-name-in-Let-clause-asks : goal.clone_node-returns-in_err-name-in-Let-clause-asks
+clone_node-returns-in_err-name-in-Let-clause-asks g t c = λ tree at.
+    err_asks _ _ c.from_residual-in_err-name-in-Let.ensures (let_asks _ _ tree at c.in-Let.is)
+    (λ blocks. ends_sooner _ (row_asks (kids_it tree)) blocks _ _ _ (one_ends _ blocks c.in_err-name-in-Let.ensures.asks))
+
+pub clone_node-returns-in_err-value-in-Let-clause-asks : goal.clone_node-returns-in_err-value-in-Let-clause-asks
+clone_node-returns-in_err-value-in-Let-clause-asks g t c = λ tree at.
+    err_asks _ _ c.from_residual-in_err-value-in-Let.ensures (let_asks _ _ tree at c.in-Let.is)
+    (ends_behind _ _ (ran_block _ _ None _ _ _ c.in_ok-name-in-Let.ensures.asks)
+    (c.in_err-value-in-Let.ensures.asks (kids_it tree) (row_at _ _ _ (ap has_kids c.in-Let.is) c.kids.ensures tree at)))
+
+pub clone_node-returns-in_err-list-in_default-clause-asks : goal.clone_node-returns-in_err-list-in_default-clause-asks
+clone_node-returns-in_err-list-in_default-clause-asks g t c = λ tree at.
+    let d = c.in_default in
+    let more = more_kinds c.args.node.kind d.not-Num d.not-Name in
+    err_asks _ _ c.from_residual-in_err-list-in_default.ensures (list_asks _ _ tree at d.not-Num d.not-Name d.not-Let)
+    (c.in_err-list-in_default.ensures.asks (kids_it tree) (row_at _ _ _ more c.kids-in_default.ensures tree at))
+
+pub clone_row-returns-clause-asks : goal.clone_row-returns-clause-asks
+clone_row-returns-clause-asks g t c = λ ts at.
+    rw (row_whole ts _ _ c.loop-i.i at (omega (arith, c.loop-i-test.false, c.len-in-loop-i.ensures, list_len c.args.from.now.memory c.args.nodes)))
+    at (c.loop-i.invariant.asks ts at)
+
+pub clone_row-returns-in_err-list-clause-asks : goal.clone_row-returns-in_err-list-clause-asks
+clone_row-returns-in_err-list-clause-asks g t c = λ ts at.
+    let many = row_length ts _ _ at ∙ list_len c.args.from.now.memory c.args.nodes ∙ sym c.len.ensures in
+    err_asks _ _ c.from_residual.ensures refl (λ blocks. ends_sooner _ (kids_asks ts) blocks _ _ _
+    (list_ends (length ts) _ blocks many c.in_err-list.ensures.asks))
+
+pub clone_row-returns-in_err-copy-clause-asks : goal.clone_row-returns-in_err-copy-clause-asks
+clone_row-returns-in_err-copy-clause-asks g t c = λ ts at.
+    let k = kid_of ts _ _ c.loop-i.i _ at c.get-node.ensures in
+    err_asks _ _ c.from_residual-in_err-copy.ensures (split_asks ts c.loop-i.i k.tree k.front)
+    (λ blocks. ends_sooner _ (kids_asks (drop (suc c.loop-i.i) ts)) blocks _ _ _
+    (ends_behind _ _ (c.loop-i.invariant.asks ts at) (c.in_err-copy.ensures.asks k.tree k.stands) blocks))

@@ -3,11 +3,9 @@ use Rattle.std.specs.Prelude.{slice_range}
 use Rattle.arena_store.specs.declared.block.Block.{Block}
 use Rattle.tree_rules.specs.Grammar.{ANumber, AName, InParens, Negated, OneFactor, Times, OneTerm, factor_tree, factors_tree}
 use Rattle.arena_tree.specs.Subtrees.{OfExpr}
-use Rattle.arena_tree.specs.Layouts.{ATerm, AFactor, ANegated, IsDoubled}
 use Rattle.tree_nodes.proofs.BuildLemmas.{prod_placed, number_placed}
 use Rattle.tree_nodes.proofs.RowLemmas.{row_none, read_none, read_more, read_frame, read_length, list_kept, exprs_built}
-use Rattle.tree_nodes.proofs.SpendingLemmas.{spends_then, spends_more, asks_of, asks_any, frees, frees_then, range_length}
-use Rattle.arena_tree.proofs.AskedLemmas.{asked_name, asked_list, asked_all, asked_four}
+use Rattle.tree_nodes.proofs.SpendingLemmas.{spends_then, spends_more, asks_any, frees, frees_then, range_length}
 use Rattle.arena_tree.proofs.PartCostLemmas.{stops_more, arena_stops, text_stops, err_up_to, err_text}
 use Rattle.arena_tree.proofs.PartLemmas.{reads_then, reads_in, reads_leaf, reads_plain, reads_star, reads_sign, refused_then, in_paren, in_sign, unsigned, opens_paren, closes_paren, opens_sign, deep_paren, deep_sign, joined, terms_placed}
 use Rattle.arena_tree.proofs.GatherLemmas.{first_child, set_twice, kid_read, sign_placed, factor_more, term_more, stop_behind, put_all, read_on, whole, read_into}
@@ -15,6 +13,8 @@ use Rattle.tree_rules.specs.Grammar.{spell_factor, spell_factors}
 use Rattle.arena_items.proofs.Layers.{empty_solid}
 use Rattle.arena_tree.specs.Asking.{factor_asks, factors_asks}
 use Rattle.arena_tree.proofs.PartRunLemmas.{number_ran, name_ran, negated_ran, parens_ran, one_factor_ran, one_term_ran, first_ran, is_more, factors_first, factors_last, factors_more, factors_four, terms_first, terms_last, terms_more, terms_four}
+use Rattle.tree_rules.specs.Places.{First, Behind, Signed, FirstTerm, Within}
+use Rattle.arena_tree.proofs.EndLemmas.{err_ends, err_arena, added, name_ends, sign_up, negated_ends, paren_up, first_up, behind_up, factors_last_ends, factors_four_ends, first_term_up, added_up, taken_ends, terms_last_ends, terms_four_ends}
 use Rattle.arena_tree.proofs.exprs.+parse.Goals as goal
 
 pub factor-returns-in-Some-Number-clause-tree : goal.factor-returns-in-Some-Number-clause-tree
@@ -46,14 +46,14 @@ factor-returns-in_ok-name_node-in-Some-Word g t c =
       spends = asks_any (spends_more c.in_ok-name_node-in-Some-Word.ensures.spends (omega arith) (omega arith));
       ran = name_ran word.0 c.in_ok-name_node-in-Some-Word.ensures.asks;
       text = tt;
+      ends = λ h p first u. tt;
     }
 
 pub factor-returns-in_err-name_node-in-Some-Word-clause-spends : goal.factor-returns-in_err-name_node-in-Some-Word-clause-spends
 factor-returns-in_err-name_node-in-Some-Word-clause-spends g t c =
     let word = rw c.in-Some-Word.field-0-is at c.in-Some-Word.ensures.some in
     let few = range_length c.args.src.now c.in-Some-Word.begin c.in-Some-Word.end in
-    err_up_to _ _ _ _ c.from_residual.ensures (arena_stops _ (asks_of (asked_name word.0)
-    (spends_more c.in_err-name_node-in-Some-Word.ensures.spends (omega arith) (omega arith))))
+    err_up_to _ _ _ _ c.from_residual.ensures (arena_stops _ (spends_more c.in_err-name_node-in-Some-Word.ensures.spends (omega arith) (omega arith)))
 
 pub minus-returns : goal.minus-returns
 minus-returns g t c =
@@ -70,6 +70,7 @@ minus-returns g t c =
           (omega arith));
       ran = negated_ran minus k.ran c.in_ok-negate.ensures.asks;
       text = tt;
+      ends = λ h p first u. tt;
     }
 
 pub minus-returns-in_err-end-clause-spends : goal.minus-returns-in_err-end-clause-spends
@@ -79,9 +80,7 @@ minus-returns-in_err-end-clause-spends g t c =
 pub minus-returns-in_err-negate-clause-spends : goal.minus-returns-in_err-negate-clause-spends
 minus-returns-in_err-negate-clause-spends g t c =
     let k = c.in_ok-end.ensures in
-    let sign = opens_sign c.requires.nest c.if-deep-eq-MOST_OPEN.false c.requires.start in
-    err_up_to _ _ _ _ c.from_residual-in_err-negate.ensures (arena_stops _ (asks_of (asked_list ANegated sign 1 (inl refl))
-    (spends_then k.spends c.in_err-negate.ensures.spends (frees k.tree.placed.frame) (omega arith) (omega arith) (omega arith))))
+    err_up_to _ _ _ _ c.from_residual-in_err-negate.ensures (arena_stops _ (spends_then k.spends c.in_err-negate.ensures.spends (frees k.tree.placed.frame) (omega arith) (omega arith) (omega arith)))
 
 pub paren-returns : goal.paren-returns
 paren-returns g t c =
@@ -99,6 +98,7 @@ paren-returns g t c =
       spends = spends_more k.spends (omega (arith, close.later)) (omega (arith, close.later));
       ran = parens_ran paren k.ran close;
       text = tt;
+      ends = λ h p first u. tt;
     }
 
 pub paren-returns-in_err-end-clause-spends : goal.paren-returns-in_err-end-clause-spends
@@ -130,6 +130,7 @@ paren-returns-in_default g t c =
       ran = tt;
       text = refused_then (opens_paren c.requires.nest c.if-deep-eq-MOST_OPEN.false c.requires.start)
           (refused_then (reads_in in_paren k.tree.read) (λ o. c.in_default.ensures.none o.opens));
+      ends = λ h p first u. tt;
     }
 
 pub term-returns-in_err-end-clause-text : goal.term-returns-in_err-end-clause-text
@@ -153,6 +154,8 @@ term-returns-in-Some g t c =
       spends = c.factors.ensures.spends c.args.at c.args.a.now first;
       ran = c.factors.ensures.ran c.args.at c.args.a.now (first_ran {spelled = spell_factor} {asks = factor_asks} k.ran c.in-Some.ensures.some);
       text = c.factors.ensures.text c.args.at c.args.a.now first;
+      ends = λ h p first u. c.factors.ensures.ends c.args.at c.args.a.now
+          (first_ran {spelled = spell_factor} {asks = factor_asks} k.ran c.in-Some.ensures.some) h p first u;
     }
 
 pub term-returns-in-None-clause-ran : goal.term-returns-in-None-clause-ran
@@ -166,7 +169,6 @@ factors-loop-stop-init g t c =
       few = (omega arith, omega (arith, list.len));
       nodes = refl;
       held = list.held c.args.a.now.memory;
-      doubled = inl list.cap;
       read = λ from old first. record {
         part = OneFactor first.part;
         read = first.read;
@@ -194,10 +196,7 @@ factors-returns-in_err-all-clause-spends g t c = λ from old first.
     let r = i.read from old first in
     let k = c.in_ok-stop.ensures in
     let b = factor_more _ c.loop-stop.count i.few.0 i.nodes c.requires.nest k.spends r k.tree in
-    let full = length-take c.loop-stop.count c.loop-stop.nodes in
-    err_up_to _ _ _ _ c.from_residual-in_err-all.ensures (arena_stops _ (asks_of (asked_all (AFactor r.part) r.read _ (read_length r.row)
-    i.held.within b.more (omega (arith, b.more, full, i.few, i.nodes)) (omega (arith, i.few)) i.doubled)
-    (put_all b c.in_err-all.ensures.spends (omega (arith, k.tree.within)) (omega arith))))
+    err_up_to _ _ _ _ c.from_residual-in_err-all.ensures (arena_stops _ (put_all b c.in_err-all.ensures.spends (omega (arith, k.tree.within)) (omega arith)))
 
 pub factors-returns-in_default : goal.factors-returns-in_default
 factors-returns-in_default g t c =
@@ -223,6 +222,7 @@ factors-returns-in_default g t c =
           factors_last (i.row from old first) k.ran
           (is_more (length (take (c.loop-stop.count + 1) others)) (c.loop-stop.count + 1) (c.loop-stop.count + 1) many (omega arith) put.asks put.grown put.len put.held) refl;
       text = λ from old first. tt;
+      ends = λ from old first h p view u. tt;
     }
 
 pub factors-returns-in_err-list-clause-spends : goal.factors-returns-in_err-list-clause-spends
@@ -232,9 +232,7 @@ factors-returns-in_err-list-clause-spends g t c = λ from old first.
     let k = c.in_ok-stop.ensures in
     let four = length-set c.loop-stop.nodes c.loop-stop.count c.factor.new.node ∙ i.nodes in
     let b = whole (factor_more _ c.loop-stop.count i.few.0 i.nodes c.requires.nest k.spends r k.tree) (four ∙ sym c.if-count-eq-FEW.true) in
-    err_up_to _ _ _ _ c.from_residual-in_err-list.ensures (arena_stops _ (asks_of (asked_four (AFactor (Times r.part k.tree.part))
-    (reads_then b.read (reads_star c.requires.nest c.in-Some.ensures.some)) _ (read_length b.row) i.held.within four i.doubled)
-    (put_all b c.in_err-list.ensures.spends (omega (arith, k.tree.within)) (omega arith))))
+    err_up_to _ _ _ _ c.from_residual-in_err-list.ensures (arena_stops _ (put_all b c.in_err-list.ensures.spends (omega (arith, k.tree.within)) (omega arith)))
 
 pub factors-loop-stop-preserved-then-count-eq-FEW : goal.factors-loop-stop-preserved-then-count-eq-FEW
 factors-loop-stop-preserved-then-count-eq-FEW g t c =
@@ -248,8 +246,6 @@ factors-loop-stop-preserved-then-count-eq-FEW g t c =
       few = (omega arith, omega (arith, i.few, put.len, four, k.tree.later, op.later, c.if-count-eq-FEW.true));
       nodes = four;
       held = put.held;
-      doubled = subst (λ many. IsDoubled many c.in_ok-list.list.raw.cap) four
-          (put.cap 2 3 four refl (subst (λ many. IsDoubled many c.loop-stop.list.raw.cap) (sym four) i.doubled));
       read = λ from old first.
           let b = factor_more _ c.loop-stop.count i.few.0 i.nodes c.requires.nest k.spends (i.read from old first) k.tree in
           read_into (read_on (whole b (four ∙ sym c.if-count-eq-FEW.true)) (reads_star c.requires.nest op)) put.spends put.len
@@ -269,7 +265,6 @@ factors-loop-stop-preserved g t c =
       few = (omega (arith, i.few, c.if-count-eq-FEW.false), omega (arith, i.few, k.tree.later, op.later));
       nodes = length-set c.loop-stop.nodes c.loop-stop.count c.factor.new.node ∙ i.nodes;
       held = list_kept i.held k.tree.placed.frame;
-      doubled = i.doubled;
       read = λ from old first. read_on (factor_more _ c.loop-stop.count i.few.0 i.nodes c.requires.nest
           k.spends (i.read from old first) k.tree) (reads_star c.requires.nest op);
       row = λ from old first. factors_more (i.row from old first) k.ran op c.if-count-eq-FEW.false;
@@ -292,6 +287,8 @@ expr-returns-in-Some g t c =
       spends = c.terms.ensures.spends c.args.at c.args.a.now first;
       ran = c.terms.ensures.ran c.args.at c.args.a.now (first_ran {spelled = spell_factors} {asks = factors_asks} k.ran c.in-Some.ensures.some);
       text = c.terms.ensures.text c.args.at c.args.a.now first;
+      ends = λ h p first u. c.terms.ensures.ends c.args.at c.args.a.now
+          (first_ran {spelled = spell_factors} {asks = factors_asks} k.ran c.in-Some.ensures.some) h p first u;
     }
 
 pub expr-returns-in-None-clause-ran : goal.expr-returns-in-None-clause-ran
@@ -305,7 +302,6 @@ terms-loop-stop-init g t c =
       few = (omega arith, omega (arith, list.len));
       nodes = refl;
       held = list.held c.args.a.now.memory;
-      doubled = inl list.cap;
       read = λ from old first. record {
         part = OneTerm first.part;
         read = first.read;
@@ -344,9 +340,8 @@ terms-returns-in_err-sign-clause-spends g t c = λ from old first.
     let r = c.loop-stop.invariant.read from old first in
     let k = c.in_ok-stop.ensures in
     err_up_to _ _ _ _ c.from_residual-in_err-sign.ensures
-    (arena_stops _ (asks_of (asked_list (ATerm r.part c.loop-stop.minus) r.read 1 (inr (omega arith, 0, refl)))
-    (spends_then (kid_read r k.spends k.tree.later) c.in_err-sign.ensures.spends (frees_then (read_frame r.row) k.tree.placed.frame)
-    (omega (arith, k.tree.within)) (omega (arith, k.tree.within)) (omega (arith, k.tree.within)))))
+    (arena_stops _ (spends_then (kid_read r k.spends k.tree.later) c.in_err-sign.ensures.spends (frees_then (read_frame r.row) k.tree.placed.frame)
+    (omega (arith, k.tree.within)) (omega (arith, k.tree.within)) (omega (arith, k.tree.within))))
 
 pub terms-returns-in_err-all-clause-spends : goal.terms-returns-in_err-all-clause-spends
 terms-returns-in_err-all-clause-spends g t c = λ from old first.
@@ -355,10 +350,7 @@ terms-returns-in_err-all-clause-spends g t c = λ from old first.
     let k = c.in_ok-stop.ensures in
     let b = term_more _ c.loop-stop.count i.few.0 i.nodes c.requires.nest k.spends c.loop-stop.minus _ r k.tree
     c.in_ok-sign.ensures.spends c.in_ok-sign.ensures.tree in
-    let full = length-take c.loop-stop.count c.loop-stop.nodes in
-    err_up_to _ _ _ _ c.from_residual-in_err-all.ensures (arena_stops _ (asks_of (asked_all (ATerm r.part c.loop-stop.minus) r.read _ (read_length r.row)
-    i.held.within b.more (omega (arith, b.more, full, i.few, i.nodes)) (omega (arith, i.few)) i.doubled)
-    (put_all b c.in_err-all.ensures.spends (omega (arith, k.tree.within)) (omega arith))))
+    err_up_to _ _ _ _ c.from_residual-in_err-all.ensures (arena_stops _ (put_all b c.in_err-all.ensures.spends (omega (arith, k.tree.within)) (omega arith)))
 
 pub terms-returns-in_default : goal.terms-returns-in_default
 terms-returns-in_default g t c =
@@ -387,6 +379,7 @@ terms-returns-in_default g t c =
           terms_last c.loop-stop.minus (i.row from old first) k.ran _ c.in_ok-sign.ensures.asks
           (is_more (length (take (c.loop-stop.count + 1) others)) (c.loop-stop.count + 1) (c.loop-stop.count + 1) many (omega arith) put.asks put.grown put.len put.held) refl;
       text = λ from old first. tt;
+      ends = λ from old first h p view u. tt;
     }
 
 pub terms-returns-in_err-list-clause-spends : goal.terms-returns-in_err-list-clause-spends
@@ -397,10 +390,7 @@ terms-returns-in_err-list-clause-spends g t c = λ from old first.
     let four = set_twice c.loop-stop.nodes c.loop-stop.count c.term.new.node c.sign.new.node i.nodes in
     let b = whole (term_more _ c.loop-stop.count i.few.0 i.nodes c.requires.nest k.spends c.loop-stop.minus _ r k.tree
     c.in_ok-sign.ensures.spends c.in_ok-sign.ensures.tree) (four ∙ sym c.if-count-eq-FEW.true) in
-    err_up_to _ _ _ _ c.from_residual-in_err-list.ensures (arena_stops _ (asks_of
-    (asked_four (ATerm (joined c.loop-stop.minus r.part k.tree.part) c.in-Some.less)
-    (reads_then b.read (reads_sign c.requires.nest c.in-Some.less c.in-Some.ensures.some)) _ (read_length b.row) i.held.within four i.doubled)
-    (put_all b c.in_err-list.ensures.spends (omega (arith, k.tree.within)) (omega arith))))
+    err_up_to _ _ _ _ c.from_residual-in_err-list.ensures (arena_stops _ (put_all b c.in_err-list.ensures.spends (omega (arith, k.tree.within)) (omega arith)))
 
 pub terms-loop-stop-preserved-then-count-eq-FEW : goal.terms-loop-stop-preserved-then-count-eq-FEW
 terms-loop-stop-preserved-then-count-eq-FEW g t c =
@@ -414,8 +404,6 @@ terms-loop-stop-preserved-then-count-eq-FEW g t c =
       few = (omega arith, omega (arith, i.few, put.len, four, k.tree.later, op.later, c.if-count-eq-FEW.true));
       nodes = four;
       held = put.held;
-      doubled = subst (λ many. IsDoubled many c.in_ok-list.list.raw.cap) four
-          (put.cap 2 3 four refl (subst (λ many. IsDoubled many c.loop-stop.list.raw.cap) (sym four) i.doubled));
       read = λ from old first.
           let b = term_more _ c.loop-stop.count i.few.0 i.nodes c.requires.nest k.spends c.loop-stop.minus _ (i.read from old first) k.tree
           c.in_ok-sign.ensures.spends c.in_ok-sign.ensures.tree in
@@ -437,9 +425,87 @@ terms-loop-stop-preserved g t c =
       nodes = set_twice c.loop-stop.nodes c.loop-stop.count c.term.new.node c.sign.new.node i.nodes;
       held = list_kept i.held
           (sign_placed c.loop-stop.nodes c.loop-stop.count i.few.0 i.nodes c.loop-stop.minus _ k.tree.placed c.in_ok-sign.ensures.tree).frame;
-      doubled = i.doubled;
       read = λ from old first. read_on (term_more _ c.loop-stop.count i.few.0 i.nodes c.requires.nest k.spends c.loop-stop.minus _
           (i.read from old first) k.tree c.in_ok-sign.ensures.spends c.in_ok-sign.ensures.tree) (reads_sign c.requires.nest c.in-Some.less op);
       row = λ from old first. terms_more c.loop-stop.minus (i.row from old first) k.ran _ c.in_ok-sign.ensures.asks c.in-Some.less op
           c.if-count-eq-FEW.false;
     }
+
+-- ---- Where a part is stopped
+
+pub factor-returns-in_err-name_node-in-Some-Word-clause-ends : goal.factor-returns-in_err-name_node-in-Some-Word-clause-ends
+factor-returns-in_err-name_node-in-Some-Word-clause-ends g t c h p first u =
+    let word = rw c.in-Some-Word.field-0-is at c.in-Some-Word.ensures.some in
+    err_arena _ _ _ c.from_residual.ensures (name_ends h u word.0 c.in_err-name_node-in-Some-Word.ensures.asks)
+
+pub minus-returns-in_err-end-clause-ends : goal.minus-returns-in_err-end-clause-ends
+minus-returns-in_err-end-clause-ends g t c h p first u =
+    err_ends ℕ _ _ _ c.from_residual.ensures (c.in_err-end.ensures.ends (Signed h) p first (sign_up h u c.requires.start))
+
+pub minus-returns-in_err-negate-clause-ends : goal.minus-returns-in_err-negate-clause-ends
+minus-returns-in_err-negate-clause-ends g t c h p first u = err_arena _ _ _ c.from_residual-in_err-negate.ensures
+    (negated_ends h u c.requires.start c.in_ok-end.ensures.ran c.in_err-negate.ensures.asks)
+
+pub paren-returns-in_err-end-clause-ends : goal.paren-returns-in_err-end-clause-ends
+paren-returns-in_err-end-clause-ends g t c h p first u =
+    err_ends ℕ _ _ _ c.from_residual.ensures (c.in_err-end.ensures.ends (Within h) p first (paren_up h u c.requires.start))
+
+pub term-returns-in_err-end-clause-ends : goal.term-returns-in_err-end-clause-ends
+term-returns-in_err-end-clause-ends g t c h p first u =
+    err_ends ℕ _ _ _ c.from_residual.ensures (c.in_err-end.ensures.ends (First h) p first (first_up h u))
+
+pub factors-returns-in_err-stop-clause-ends : goal.factors-returns-in_err-stop-clause-ends
+factors-returns-in_err-stop-clause-ends g t c from old one h p first u =
+    let r = c.loop-stop.invariant.row from old one in
+    err_ends ℕ _ _ _ c.from_residual.ensures (c.in_err-stop.ensures.ends (Behind r.part h) p first (behind_up h u r))
+
+pub factors-returns-in_err-all-clause-ends : goal.factors-returns-in_err-all-clause-ends
+factors-returns-in_err-all-clause-ends g t c from old one h p first u =
+    let i = c.loop-stop.invariant in
+    let others = set c.loop-stop.nodes c.loop-stop.count c.factor.new.node in
+    let many : length (take (c.loop-stop.count + 1) others) ≡ c.loop-stop.count + 1
+    = omega (arith, length-take (c.loop-stop.count + 1) others, length-set c.loop-stop.nodes c.loop-stop.count c.factor.new.node, i.nodes, i.few) in
+    err_arena _ _ _ c.from_residual-in_err-all.ensures (factors_last_ends h u (i.row from old one) c.in_ok-stop.ensures.ran _ _ many
+    c.in_err-all.ensures.asks refl c.in_default.ensures.none)
+
+pub factors-returns-in_err-list-clause-ends : goal.factors-returns-in_err-list-clause-ends
+factors-returns-in_err-list-clause-ends g t c from old one h p first u =
+    let i = c.loop-stop.invariant in
+    let four = length-set c.loop-stop.nodes c.loop-stop.count c.factor.new.node ∙ i.nodes in
+    err_arena _ _ _ c.from_residual-in_err-list.ensures (factors_four_ends h u (i.row from old one) c.in_ok-stop.ensures.ran _ _
+    (four ∙ sym c.if-count-eq-FEW.true) c.in_err-list.ensures.asks c.if-count-eq-FEW.true refl c.in-Some.ensures.some)
+
+pub expr-returns-in_err-end-clause-ends : goal.expr-returns-in_err-end-clause-ends
+expr-returns-in_err-end-clause-ends g t c h p first u =
+    err_ends ℕ _ _ _ c.from_residual.ensures (c.in_err-end.ensures.ends (FirstTerm h) p first (first_term_up h u))
+
+pub terms-returns-in_err-stop-clause-ends : goal.terms-returns-in_err-stop-clause-ends
+terms-returns-in_err-stop-clause-ends g t c from old one h p first u =
+    let r = c.loop-stop.invariant.row from old one in
+    err_ends ℕ _ _ _ c.from_residual.ensures
+    (c.in_err-stop.ensures.ends (added c.loop-stop.minus r.part h) p first (added_up h u c.loop-stop.minus r))
+
+pub terms-returns-in_err-sign-clause-ends : goal.terms-returns-in_err-sign-clause-ends
+terms-returns-in_err-sign-clause-ends g t c from old one h p first u =
+    let k = c.in_ok-stop.ensures in
+    let asks = c.in_err-sign.ensures.asks in
+    err_arena _ _ _ c.from_residual-in_err-sign.ensures
+    (taken_ends h u c.loop-stop.minus (c.loop-stop.invariant.row from old one) k.ran asks.0 asks.1 k.tree.stopped)
+
+pub terms-returns-in_err-all-clause-ends : goal.terms-returns-in_err-all-clause-ends
+terms-returns-in_err-all-clause-ends g t c from old one h p first u =
+    let i = c.loop-stop.invariant in
+    let k = c.in_ok-stop.ensures in
+    let others = set (set c.loop-stop.nodes c.loop-stop.count c.term.new.node) c.loop-stop.count c.sign.new.node in
+    let many : length (take (c.loop-stop.count + 1) others) ≡ c.loop-stop.count + 1
+    = omega (arith, length-take (c.loop-stop.count + 1) others, set_twice c.loop-stop.nodes c.loop-stop.count c.term.new.node c.sign.new.node i.nodes, i.few) in
+    err_arena _ _ _ c.from_residual-in_err-all.ensures (terms_last_ends h u c.loop-stop.minus (i.row from old one) k.ran _
+    c.in_ok-sign.ensures.asks _ _ many c.in_err-all.ensures.asks refl (k.tree.stopped, c.in_default.ensures.none))
+
+pub terms-returns-in_err-list-clause-ends : goal.terms-returns-in_err-list-clause-ends
+terms-returns-in_err-list-clause-ends g t c from old one h p first u =
+    let i = c.loop-stop.invariant in
+    let four = set_twice c.loop-stop.nodes c.loop-stop.count c.term.new.node c.sign.new.node i.nodes in
+    err_arena _ _ _ c.from_residual-in_err-list.ensures (terms_four_ends h u c.loop-stop.minus (i.row from old one) c.in_ok-stop.ensures.ran _
+    c.in_ok-sign.ensures.asks _ _ (four ∙ sym c.if-count-eq-FEW.true) c.in_err-list.ensures.asks c.in-Some.less c.if-count-eq-FEW.true refl
+    c.in-Some.ensures.some)

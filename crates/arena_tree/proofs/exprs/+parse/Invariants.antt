@@ -2,7 +2,6 @@ use Rattle.std.proofs.Common.{ℕ, ◌≡◌, length, take, ◌+◌, ◌-◌, �
 use Rattle.arena_chunks.specs.Source.{View}
 use Rattle.arena_vec.specs.Vecs.{IsVecIn}
 use Rattle.arena_tree.specs.TreesAt.{node_item}
-use Rattle.arena_tree.specs.Layouts.{IsDoubled}
 use Rattle.tree_rules.specs.Tokens.{Star}
 use Rattle.tree_rules.specs.Grammar.{spell_factors, spell_terms}
 use Rattle.arena_tree.specs.Parts.{sign_of}
@@ -37,7 +36,6 @@ invariant-factors-loop-stop g l = record {
   few : (l.count < 4) × (2 * (l.list.raw.len + l.count) ≤ l.here - l.at + 2);
   nodes : length l.nodes ≡ 4;
   held : IsVecIn node_item l.a.memory l.list;
-  doubled : IsDoubled 4 l.list.raw.cap;
   read : (from : ℕ) (old : View) → IsFirstFactor l.deep l.src from l.at old l.fn.a l.fn.node
       → FactorsRead l.deep l.src from l.here old l.a l.list (take l.count l.nodes);
   row : (from : ℕ) (old : View) → FirstFactorRan l.src from l.at old l.fn.a
@@ -53,7 +51,6 @@ invariant-terms-loop-stop g l = record {
   few : (l.count < 4) × (2 * (l.list.raw.len + l.count) ≤ l.here - l.at + 2);
   nodes : length l.nodes ≡ 4;
   held : IsVecIn node_item l.a.memory l.list;
-  doubled : IsDoubled 4 l.list.raw.cap;
   read : (from : ℕ) (old : View) → IsFirstTerm l.first l.deep l.src from l.at old l.fn.a l.fn.node
       → TermsRead l.minus l.deep l.src from l.here old l.a l.list (take l.count l.nodes);
   row : (from : ℕ) (old : View) → FirstTermRan l.first l.src from l.at old l.fn.a

@@ -1,23 +1,23 @@
 use Rattle.std.proofs.lemmas.Bool.Decides.{nat_tests}
-use Rattle.std.proofs.Common.{ℕ, add-one, subst, refl, ap, sym, ◌∙◌, inl, ◌∷◌, arith, ◌+◌, ◌-◌}
+use Rattle.std.proofs.Common.{ℕ, add-one, subst, refl, ap, sym, ◌∙◌, ◌∷◌, arith, ◌+◌, ◌-◌}
 use Rattle.arena_tree.specs.Spending.{most_for, credit}
-use Rattle.arena_tree.proofs.AskedLemmas.{asked_longer}
-use Rattle.tree_nodes.proofs.SpendingLemmas.{asks_of, asks_any, spends_nothing, spends_then, spends_more, frees, frees_then}
+use Rattle.tree_nodes.proofs.SpendingLemmas.{asks_any, spends_nothing, spends_then, spends_more, frees, frees_then}
 use Rattle.arena_tree.proofs.PartCostLemmas.{err_up_to, err_all, err_text, stops_then, stops_more, arena_stops, text_stops}
 use Rattle.arena_store.specs.declared.block.Block.{Block}
 use Rattle.arena_vec.specs.declared.vec.Vec.{Vec}
 use Rattle.tree_rules.specs.Tokens.{LeftBrace}
 use Rattle.tree_rules.specs.Grammar.{BlockLine, Empty, Next, spell, line_tree, trees_of}
 use Rattle.tree_nodes.specs.declared.node.Node.{Node}
-use Rattle.arena_tree.specs.Parts.{IsPassed, Reads}
-use Rattle.arena_tree.specs.Layouts.{ALine, spell_to}
+use Rattle.arena_tree.specs.Parts.{IsPassed}
 use Rattle.arena_tree.specs.Subtrees.{OfStmt}
-use Rattle.arena_tree.specs.LineParts.{at_line, line_at}
+use Rattle.arena_tree.specs.LineParts.{at_line}
 use Rattle.tree_nodes.proofs.LinesLemmas.{block_placed}
 use Rattle.tree_nodes.proofs.RowLemmas.{row_none, stmts_built, stmts_more}
 use Rattle.arena_tree.proofs.PartLemmas.{opens_brace, closes_brace, deep_brace, refused_then}
 use Rattle.arena_items.proofs.Layers.{empty_solid}
 use Rattle.arena_tree.proofs.PartRunLemmas.{block_ran, lines_none, lines_more, lines_ran, lines_same}
+use Rattle.std.specs.Prelude.{Option, Some}
+use Rattle.arena_tree.proofs.EndLemmas.{err_ends, err_arena, in_lines, block_up, line_up, push_ends}
 use Rattle.arena_tree.proofs.program.+lines.Goals as goal
 
 pub block-returns-clause-tree : goal.block-returns-clause-tree
@@ -77,7 +77,6 @@ lines-loop-list-init g t c =
     let list = c.new_in-list.ensures in
     record {
       few = omega (arith, list.len);
-      doubled = inl list.cap;
       row = lines_none (empty_solid c.new_in-list.result.raw.block (ap (λ (b : Block). b.size) list.block)) list.len list.cap;
       spends = spends_nothing _ 0 _ c.args.a.now (omega (arith, list.len));
       read = record {
@@ -99,7 +98,6 @@ lines-loop-list-preserved g t c =
     (frees i.read.built.frame) (omega arith) (omega arith) (omega arith) in
     record {
       few = omega arith;
-      doubled = push.cap i.doubled;
       row = lines_more i.row k.ran push.asks push.grown push.len push.held;
       spends = asks_any
           (spends_then read push.spends (frees_then i.read.built.frame k.tree.placed.frame) (omega arith) (omega arith) (omega arith));
@@ -137,16 +135,9 @@ lines-returns-in_err-push_node-in-Some-clause-spends g t c =
     let k = rw c.in-Some.is at c.in_ok-line.ensures in
     let read = spends_then {all = most_for (c.in-Some.end - c.args.at)} {rest = 512 + credit c.loop-list.list} i.spends k.spends
     (frees i.read.built.frame) (omega arith) (omega arith) (omega arith) in
-    let line : Reads c.args.src.now c.args.at c.in-Some.end (spell_to (ALine i.read.part k.tree.part)) (line_at c.args.deep) (line_at c.args.deep) = record {
-      tokens_are = i.read.tokens_are ∙ ap (spell i.read.part) k.tree.tokens_are;
-      same = λ u. i.read.same ∙ k.tree.same u;
-      later = omega (arith, i.read.later, k.tree.later);
-      within = k.tree.within;
-    } in
     err_all _ _ _ _ c.from_residual-in_err-push_node-in-Some.ensures
-    (arena_stops _ (asks_of (asked_longer (ALine i.read.part k.tree.part) line i.read.built i.doubled)
-    (spends_then read c.in_err-push_node-in-Some.ensures.spends (frees_then i.read.built.frame k.tree.placed.frame) (omega arith)
-    (omega arith) (omega arith))))
+    (arena_stops _ (spends_then read c.in_err-push_node-in-Some.ensures.spends (frees_then i.read.built.frame k.tree.placed.frame) (omega arith)
+    (omega arith) (omega arith)))
 
 pub block-returns-clause-ran : goal.block-returns-clause-ran
 block-returns-clause-ran g t c = block_ran c.requires.start c.in_ok-list.ensures.ran c.in-Some.ensures.some
@@ -155,3 +146,30 @@ pub lines-returns-in-None-clause-ran : goal.lines-returns-in-None-clause-ran
 lines-returns-in-None-clause-ran g t c =
     let k = rw c.in-None.is at c.in_ok-line.ensures in
     lines_ran (lines_same c.loop-list.invariant.row k.ran)
+
+pub block-returns-in_err-list-clause-ends : goal.block-returns-in_err-list-clause-ends
+block-returns-in_err-list-clause-ends g t c h p first u =
+    err_ends (Vec Node × ℕ) _ _ _ c.from_residual.ensures (c.in_err-list.ensures.ends (Some h) p first (block_up h u c.requires.start))
+
+pub lines-returns-in_err-line-clause-ends : goal.lines-returns-in_err-line-clause-ends
+lines-returns-in_err-line-clause-ends g t c o p first u =
+    let r = c.loop-list.invariant.row in
+    err_ends (Option ℕ) _ _ _ c.from_residual.ensures (c.in_err-line.ensures.ends (in_lines o r.part) p first (line_up o u r))
+
+pub lines-returns-in_err-push_node-in-Some-clause-ends : goal.lines-returns-in_err-push_node-in-Some-clause-ends
+lines-returns-in_err-push_node-in-Some-clause-ends g t c o p first u =
+    let k = rw c.in-Some.is at c.in_ok-line.ensures in
+    err_arena _ _ _ c.from_residual-in_err-push_node-in-Some.ensures
+    (push_ends o u c.loop-list.invariant.row k.ran c.in_err-push_node-in-Some.ensures.asks)
+
+pub line-returns-in_err-last-in-Some-Let-clause-ends : goal.line-returns-in_err-last-in-Some-Let-clause-ends
+line-returns-in_err-last-in-Some-Let-clause-ends g t c h p first u =
+    err_ends ℕ _ _ _ c.from_residual.ensures (c.in_err-last-in-Some-Let.ensures.ends h p first u)
+
+pub line-returns-in_err-last-in-Some-Expr-clause-ends : goal.line-returns-in_err-last-in-Some-Expr-clause-ends
+line-returns-in_err-last-in-Some-Expr-clause-ends g t c h p first u =
+    err_ends ℕ _ _ _ c.from_residual-in_err-last-in-Some-Expr.ensures (c.in_err-last-in-Some-Expr.ensures.ends h p first u)
+
+pub line-returns-in_err-last-in-Some-Block-clause-ends : goal.line-returns-in_err-last-in-Some-Block-clause-ends
+line-returns-in_err-last-in-Some-Block-clause-ends g t c h p first u =
+    err_ends ℕ _ _ _ c.from_residual-in_err-last-in-Some-Block.ensures (c.in_err-last-in-Some-Block.ensures.ends h p first u)

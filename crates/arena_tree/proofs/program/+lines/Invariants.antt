@@ -1,8 +1,7 @@
 use Rattle.std.proofs.Common.{length, ◌+◌, ◌-◌, ◌*◌, ◌≤◌, None}
 use Rattle.arena_tree.specs.LineParts.{AreLines}
-use Rattle.arena_tree.specs.Layouts.{AskedFor, IsDoubled}
 use Rattle.arena_tree.specs.Asking.{LinesRead}
-use Rattle.arena_tree.specs.Spending.{Spends, most_for, credit}
+use Rattle.arena_tree.specs.Spending.{AnyBlock, Spends, most_for, credit}
 use Rattle.arena_tree.proofs.program.+lines.Given as goal
 
 abbrev pub decreases-block : goal.decreases-block
@@ -18,8 +17,7 @@ abbrev pub invariant-lines-loop-list : goal.invariant-lines-loop-list
 invariant-lines-loop-list g l = record {
   read : AreLines l.deep l.src l.at l.here l.fn.a.memory l.a.memory l.list;
   few : 2 * l.list.raw.len ≤ l.here - l.at;
-  doubled : IsDoubled 1 l.list.raw.cap;
-  spends : Spends (AskedFor l.src) (most_for (l.here - l.at)) 0 (credit l.list) l.fn.a l.a None;
+  spends : Spends AnyBlock (most_for (l.here - l.at)) 0 (credit l.list) l.fn.a l.a None;
   row : LinesRead l.src l.at l.here l.fn.a l.a l.list;
 }
 

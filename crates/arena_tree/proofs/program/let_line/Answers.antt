@@ -1,18 +1,18 @@
 use Rattle.std.proofs.Common.{ℕ, ◌≤◌, arith, refl, sym, ◌∙◌, ◌-◌, inl}
 use Rattle.tree_rules.specs.Refusals.{most_nest}
 use Rattle.arena_tree.specs.Spending.{most_for}
-use Rattle.arena_tree.proofs.AskedLemmas.{asked_name, asked_list}
-use Rattle.tree_nodes.proofs.SpendingLemmas.{asks_of, asks_any, spends_then, spends_more, frees, frees_then, range_length}
+use Rattle.tree_nodes.proofs.SpendingLemmas.{asks_any, spends_then, spends_more, frees, frees_then, range_length}
 use Rattle.arena_tree.proofs.PartCostLemmas.{err_up_to, err_text, arena_stops, stops_then, text_stops}
 use Rattle.std.specs.Prelude.{slice_range}
 use Rattle.tree_rules.specs.Trees.{NoExprs, And}
-use Rattle.tree_rules.specs.Grammar.{LetLine, Empty, terms_tree}
-use Rattle.arena_tree.specs.Layouts.{ALine}
+use Rattle.tree_rules.specs.Grammar.{LetLine, terms_tree}
 use Rattle.arena_tree.specs.LineParts.{Depth}
 use Rattle.tree_nodes.proofs.LinesLemmas.{let_node_placed}
 use Rattle.tree_nodes.proofs.RowLemmas.{exprs_built}
 use Rattle.arena_tree.proofs.PartLemmas.{reads_then, reads_in, in_braces, reads_value}
 use Rattle.arena_tree.proofs.PartRunLemmas.{let_ran}
+use Rattle.tree_rules.specs.Places.{LetOf, Of}
+use Rattle.arena_tree.proofs.EndLemmas.{err_ends, err_arena, let_name_ends, let_up, let_ends}
 use Rattle.arena_tree.proofs.program.let_line.Goals as goal
 
 -- the depth at which it begins
@@ -48,8 +48,7 @@ returns-in_default-clause-text g c p =
 pub returns-in_err-name-clause-spends : goal.returns-in_err-name-clause-spends
 returns-in_err-name-clause-spends g c =
     let few = range_length c.args.src.now c.args.begin c.args.end in
-    err_up_to _ _ _ _ c.from_residual.ensures (arena_stops _ (asks_of (asked_name c.requires.word.1)
-    (spends_more c.in_err-name.ensures.spends (omega arith) (omega arith))))
+    err_up_to _ _ _ _ c.from_residual.ensures (arena_stops _ (spends_more c.in_err-name.ensures.spends (omega arith) (omega arith)))
 
 pub returns-in_err-stop-clause-spends : goal.returns-in_err-stop-clause-spends
 returns-in_err-stop-clause-spends g c =
@@ -74,12 +73,8 @@ returns-in_err-wrap-clause-spends g c =
     let e = c.in_ok-stop.ensures in
     let read = spends_then {all = most_for (c.in_ok-stop.stop - c.args.at)} {rest = 512} text.spends e.spends (frees text.frame)
     (omega arith) (omega arith) (omega arith) in
-    let line = reads_then (reads_in (depth c.args.deep c.requires.nest) c.requires.first)
-    (reads_value c.requires.nest e.tree.read c.in-Some.ensures.some) in
-    let name = slice_range c.args.src.now c.args.begin c.args.end in
     err_up_to _ _ _ _ c.from_residual-in_err-wrap.ensures
-    (arena_stops _ (asks_of (asked_list (ALine Empty (LetLine name e.tree.part)) line 1 (inl refl))
-    (spends_then read c.in_err-wrap.ensures.spends (frees_then text.frame e.tree.placed.frame) (omega arith) (omega arith) (omega arith))))
+    (arena_stops _ (spends_then read c.in_err-wrap.ensures.spends (frees_then text.frame e.tree.placed.frame) (omega arith) (omega arith) (omega arith)))
 
 pub returns-clause-spends : goal.returns-clause-spends
 returns-clause-spends g c =
@@ -95,3 +90,16 @@ returns-clause-spends g c =
 pub returns-clause-ran : goal.returns-clause-ran
 returns-clause-ran g c = let_ran (slice_range c.args.src.now c.args.begin c.args.end) c.requires.first.tokens_are c.in_ok-name.ensures.asks
     c.in_ok-stop.ensures.ran c.in-Some.ensures.some c.in_ok-wrap.ensures.asks
+
+pub returns-in_err-name-clause-ends : goal.returns-in_err-name-clause-ends
+returns-in_err-name-clause-ends g c h p first u =
+    err_arena _ _ _ c.from_residual.ensures (let_name_ends h u _ c.requires.first.tokens_are c.in_err-name.ensures.asks)
+
+pub returns-in_err-stop-clause-ends : goal.returns-in_err-stop-clause-ends
+returns-in_err-stop-clause-ends g c h p first u = err_ends ℕ _ _ _ c.from_residual-in_err-stop.ensures
+    (c.in_err-stop.ensures.ends (Of (LetOf (slice_range c.args.src.now c.args.begin c.args.end)) h) p first
+    (let_up h u _ c.requires.first.tokens_are c.in_ok-name.ensures.asks))
+
+pub returns-in_err-wrap-clause-ends : goal.returns-in_err-wrap-clause-ends
+returns-in_err-wrap-clause-ends g c h p first u = err_arena _ _ _ c.from_residual-in_err-wrap.ensures
+    (let_ends h u _ c.requires.first.tokens_are c.in_ok-name.ensures.asks c.in_ok-stop.ensures.ran c.in-Some.ensures.some c.in_err-wrap.ensures.asks)

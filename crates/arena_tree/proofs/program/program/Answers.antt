@@ -4,6 +4,10 @@ use Rattle.tree_nodes.proofs.SpendingLemmas.{spends_more}
 use Rattle.arena_tree.proofs.LineLemmas.{ends_all, more_left}
 use Rattle.arena_tree.proofs.PartCostLemmas.{text_stops}
 use Rattle.arena_tree.proofs.PartRunLemmas.{program_ran}
+use Rattle.std.specs.Prelude.{ℕ, None}
+use Rattle.arena_vec.specs.declared.vec.Vec.{Vec}
+use Rattle.tree_nodes.specs.declared.node.Node.{Node}
+use Rattle.arena_tree.proofs.EndLemmas.{err_ends, program_up}
 use Rattle.arena_tree.proofs.program.program.Goals as goal
 
 pub returns-in-None-clause-trees : goal.returns-in-None-clause-trees
@@ -24,3 +28,7 @@ returns-in-Some-clause-spends g c =
 
 pub returns-in-None-clause-ran : goal.returns-in-None-clause-ran
 returns-in-None-clause-ran g c = program_ran c.in_ok-list.ensures.ran c.in-None.ensures.none
+
+pub returns-in_err-list-clause-ends : goal.returns-in_err-list-clause-ends
+returns-in_err-list-clause-ends g c p is =
+    err_ends (Vec Node × ℕ) _ _ _ c.from_residual.ensures (c.in_err-list.ensures.ends None p c.args.a.now (program_up is))

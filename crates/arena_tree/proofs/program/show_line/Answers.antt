@@ -1,14 +1,14 @@
 use Rattle.std.proofs.Common.{ℕ, arith, refl, sym, ◌∙◌, inl}
-use Rattle.arena_tree.proofs.AskedLemmas.{asked_list}
-use Rattle.tree_nodes.proofs.SpendingLemmas.{asks_of, asks_any, spends_then, frees}
+use Rattle.tree_nodes.proofs.SpendingLemmas.{asks_any, spends_then, frees}
 use Rattle.arena_tree.proofs.PartCostLemmas.{err_up_to, err_text, arena_stops, text_stops}
 use Rattle.tree_rules.specs.Trees.{NoExprs, And}
 use Rattle.tree_rules.specs.Grammar.{ShowLine, Empty, terms_tree}
-use Rattle.arena_tree.specs.Layouts.{ALine}
 use Rattle.tree_nodes.proofs.LinesLemmas.{show_placed}
 use Rattle.tree_nodes.proofs.RowLemmas.{exprs_built}
 use Rattle.arena_tree.proofs.PartLemmas.{in_braces, reads_value}
 use Rattle.arena_tree.proofs.PartRunLemmas.{show_ran}
+use Rattle.tree_rules.specs.Places.{ShowOf, Of}
+use Rattle.arena_tree.proofs.EndLemmas.{err_ends, err_arena, show_up, show_ends}
 use Rattle.arena_tree.proofs.program.show_line.Goals as goal
 
 pub returns : goal.returns
@@ -33,6 +33,7 @@ returns g c =
           (omega (arith, end.later)) (omega (arith, end.later)));
       ran = show_ran e.ran end c.in_ok-wrap.ensures.asks;
       text = tt;
+      ends = λ h p first u. tt;
     }
 
 pub returns-in_err-stop-clause-text : goal.returns-in_err-stop-clause-text
@@ -47,12 +48,19 @@ returns-in_default g c =
       spends = text_stops e.spends e.tree.placed.frame (omega (arith, e.tree.within));
       ran = tt;
       text = λ p. c.in_default.ensures.none c.args.deep (sym (c.requires.starts c.args.deep ∙ e.tree.same (in_braces c.args.deep)) ∙ p);
+      ends = λ h p first u. tt;
     }
 
 pub returns-in_err-wrap-clause-spends : goal.returns-in_err-wrap-clause-spends
 returns-in_err-wrap-clause-spends g c =
     let e = c.in_ok-stop.ensures in
-    let line = reads_value c.requires.nest e.tree.read c.in-Some.ensures.some in
     err_up_to _ _ _ _ c.from_residual-in_err-wrap.ensures
-    (arena_stops _ (asks_of (asked_list (ALine Empty (ShowLine e.tree.part)) line 1 (inl refl))
-    (spends_then e.spends c.in_err-wrap.ensures.spends (frees e.tree.placed.frame) (omega arith) (omega arith) (omega arith))))
+    (arena_stops _ (spends_then e.spends c.in_err-wrap.ensures.spends (frees e.tree.placed.frame) (omega arith) (omega arith) (omega arith)))
+
+pub returns-in_err-stop-clause-ends : goal.returns-in_err-stop-clause-ends
+returns-in_err-stop-clause-ends g c h p first u =
+    err_ends ℕ _ _ _ c.from_residual.ensures (c.in_err-stop.ensures.ends (Of ShowOf h) p first (show_up h u))
+
+pub returns-in_err-wrap-clause-ends : goal.returns-in_err-wrap-clause-ends
+returns-in_err-wrap-clause-ends g c h p first u = err_arena _ _ _ c.from_residual-in_err-wrap.ensures
+    (show_ends h u c.in_ok-stop.ensures.ran c.in-Some.ensures.some c.in_err-wrap.ensures.asks)

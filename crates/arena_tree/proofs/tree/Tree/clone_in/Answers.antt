@@ -8,6 +8,7 @@ use Rattle.arena_tree.proofs.GivenLemmas.{built_given}
 use Rattle.arena_tree.proofs.ParseLemmas.{spends_takes, short}
 use Rattle.tree_nodes.proofs.RowLemmas.{stmts_built}
 use Rattle.tree_nodes.proofs.SubtreeLemmas.{stmt_row_at}
+use Rattle.arena_tree.proofs.CloneAskLemmas.{tree_ran, tree_ends}
 use Rattle.arena_tree.proofs.tree.Tree.clone_in.Goals as goal
 
 pub clone_row-requires : goal.clone_row-requires
@@ -50,3 +51,15 @@ unreachable-requires g c = grind (arith, nat_tests, stmt_row_at)
 
 pub returns-in-Ok-clause-lean : goal.returns-in-Ok-clause-lean
 returns-in-Ok-clause-lean g c = (returns-in-Ok-clause-clones g c c.requires.trees c.requires.means).lean
+
+pub returns-in-Ok-clause-asks : goal.returns-in-Ok-clause-asks
+returns-in-Ok-clause-asks g c = λ trees means.
+    tree_ran trees (c.in-Ok.ensures.asks (stmt_row trees) (stmt_row_at trees _ _ means))
+
+pub returns-in-Err-AllocErr-clause-asks : goal.returns-in-Err-AllocErr-clause-asks
+returns-in-Err-AllocErr-clause-asks g c = λ trees means.
+    tree_ends trees ((rw c.in-Err-AllocErr.field-0-is at c.in-Err-AllocErr.ensures.asks) (stmt_row trees) (stmt_row_at trees _ _ means))
+
+pub returns-in-Err-OutOfMemory-clause-asks : goal.returns-in-Err-OutOfMemory-clause-asks
+returns-in-Err-OutOfMemory-clause-asks g c = λ trees means.
+    tree_ends trees ((rw c.in-Err-OutOfMemory.field-0-is at c.in-Err-OutOfMemory.ensures.asks) (stmt_row trees) (stmt_row_at trees _ _ means))

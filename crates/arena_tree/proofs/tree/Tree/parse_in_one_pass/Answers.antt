@@ -29,7 +29,8 @@ returns-in-Err-clause-parses g c =
     let src = c.args.src.now in
     let r = c.some_reading.ensures src in
     subst (λ e. ParsesInOnePass src c.args.a.now c.program.new.a (Err e)) (sym c.unplaced.ensures) (stopped_parses src c.args.a.now
-    c.program.new.a r.0 r.1 (c.machine.ensures.same src r.0 r.1) c.in-Err.stop c.in-Err.ensures.text c.in-Err.ensures.spends)
+    c.program.new.a r.0 r.1 (c.machine.ensures.same src r.0 r.1) c.in-Err.stop c.in-Err.ensures.text c.in-Err.ensures.spends
+    c.in-Err.ensures.ends)
 
 pub returns-in-Err-clause-bytes : goal.returns-in-Err-clause-bytes
 returns-in-Err-clause-bytes g c = spends_takes _ c.in-Err.ensures.spends.0 (omega arith)
