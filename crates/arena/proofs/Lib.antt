@@ -4,4 +4,4 @@ pub use Rattle.arena_vec.proofs.Layers as VecLayers
 pub use Rattle.arena_hash.proofs.Layers as MapLayers
 pub use Rattle.arena_clone.proofs.Layers as CopyLayers
 pub use Rattle.arena_symbols.proofs.Layers as SymbolLayers
-pub use Rattle.arena_pool.proofs.Layers as PoolLayers
+pub use Rattle.arena_ast.proofs.Layers as AstLayers

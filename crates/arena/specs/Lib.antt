@@ -39,6 +39,8 @@ pub use Rattle.arena_items.specs.Placing
 pub use Rattle.arena_items.specs.Typed
 pub use Rattle.arena_items.specs.Room
 pub use Rattle.arena_items.specs.Costs
+pub use Rattle.arena_items.specs.Beside
+pub use Rattle.arena_items.specs.Rows as ItemRows
 pub use Rattle.arena_items.specs.Denied
 pub use Rattle.arena_items.specs.Footprint
 pub use Rattle.arena_items.specs.laws.FootprintLaws
@@ -64,6 +66,7 @@ pub use Rattle.arena_bits.specs.Bits
 pub use Rattle.arena_bits.specs.Sets as BitSets
 pub use Rattle.arena_bits.specs.Walks as BitWalks
 pub use Rattle.arena_bits.specs.Printed as BitTexts
+pub use Rattle.arena_bits.specs.Edits as BitEdits
 pub use Rattle.arena_hash.specs.Fx
 pub use Rattle.arena_hash.specs.Finite
 pub use Rattle.arena_hash.specs.Contents
@@ -89,6 +92,7 @@ pub use Rattle.arena_clone.specs.laws.EitherLaws
 pub use Rattle.arena_clone.specs.Alike
 pub use Rattle.arena_clone.specs.Origins
 pub use Rattle.arena_clone.specs.Placing as CopyPlacing
+pub use Rattle.arena_clone.specs.Rows as CopyRows
 pub use Rattle.arena_clone.specs.MapKind
 pub use Rattle.arena_clone.specs.laws.KeyLaws
 pub use Rattle.arena_clone.specs.laws.MapLaws
@@ -107,15 +111,10 @@ pub use Rattle.arena_symbols.specs.laws.TableLaws
 pub use Rattle.arena_symbols.specs.Named
 pub use Rattle.arena_symbols.specs.Calls
 pub use Rattle.arena_symbols.specs.Serving as SymbolServing
-pub use Rattle.arena_pool.specs.Kinds as PoolKinds
-pub use Rattle.arena_pool.specs.Pool
-pub use Rattle.arena_pool.specs.Names as PoolNames
-pub use Rattle.arena_pool.specs.Lending
-pub use Rattle.arena_pool.specs.Claiming
-pub use Rattle.arena_pool.specs.Sharing
-pub use Rattle.arena_pool.specs.GivingUp
-pub use Rattle.arena_workers.specs.Working
-pub use Rattle.arena_workers.specs.Starving
+pub use Rattle.arena_ast.specs.Asts
+pub use Rattle.arena_ast.specs.Rows as AstRows
+pub use Rattle.arena_ast.specs.Forms
+pub use Rattle.arena_ast.specs.laws.AstLaws
 pub use Rattle.arena_store.specs.declared.block.Block as BlockType
 pub use Rattle.arena_store.specs.declared.block.ArenaErr as ArenaErrType
 pub use Rattle.arena_chunks.specs.declared.allocator.text.Str as StrType
@@ -124,9 +123,12 @@ pub use Rattle.arena_items.specs.declared.boxes.Box as BoxType
 pub use Rattle.arena_items.specs.declared.slices.BoxSlice as BoxSliceType
 pub use Rattle.arena_items.specs.declared.placing.ItemErr as ItemErrType
 pub use Rattle.arena_items.specs.declared.room.AllocError as AllocErrorType
+pub use Rattle.arena_items.specs.declared.room.Growth as GrowthType
 pub use Rattle.arena_vec.specs.declared.vec.Vec as VecType
 pub use Rattle.arena_text.specs.declared.text.StringBuilder as StringBuilderType
 pub use Rattle.arena_bits.specs.declared.set.BitSet as BitSetType
 pub use Rattle.arena_hash.specs.declared.map.HashMap as HashMapType
 pub use Rattle.arena_symbols.specs.declared.symbols.Symbols as SymbolsType
 pub use Rattle.arena_symbols.specs.declared.scopes.Scopes as ScopesType
+pub use Rattle.arena_ast.specs.declared.ast.Ast as AstType
+pub use Rattle.arena_ast.specs.declared.by_parts.ByParts as ByPartsType

@@ -7,7 +7,7 @@ use Rattle.std.proofs.lemmas.Option.{none-some, same_Some}
 use Rattle.arena_chunks.specs.Frame.{AreAllApart, Frame}
 use Rattle.arena_chunks.specs.Memory.{Memory}
 use Rattle.arena_chunks.specs.Source.{View}
-use Rattle.arena_chunks.proofs.Layers.{apart_both, frame_reflexive, frame_weaken, frame_beside, frame_behind}
+use Rattle.arena_chunks.proofs.Layers.{frame_reflexive, frame_weaken, frame_beside, frame_behind}
 use Rattle.arena_store.specs.declared.block.Block.{Block}
 use Rattle.arena_items.specs.Beside.{Moves}
 use Rattle.arena_items.specs.Values.{bytes_of}
@@ -16,7 +16,7 @@ use Rattle.arena_items.specs.declared.room.AllocError.{AllocError}
 use Rattle.arena_vec.specs.Vecs.{IsVecIn, vec_list}
 use Rattle.arena_vec.specs.declared.vec.Vec.{Vec}
 use Rattle.arena_vec.proofs.Layers.{length-elements}
-use Rattle.arena_symbols.specs.Interning.{Interns, KeepsTexts}
+use Rattle.arena_symbols.specs.Interning.{Interns}
 use Rattle.arena_symbols.specs.Names.{IsInternerIn, names_footprint}
 use Rattle.arena_symbols.specs.declared.symbols.Symbols.{Symbols}
 use Rattle.arena_symbols.proofs.Layers.{all_turned}
@@ -32,17 +32,6 @@ got [] y zero x e = inr (refl, same_Some y x e)
 got [] y (suc i) x e = absurd (none-some x e)
 got (z ∷ xs) y zero x e = inl e
 got (z ∷ xs) y (suc i) x e = elim (got xs y i x e) [ inl before ↦ inl before | inr last ↦ inr (ap suc last.0, last.1) ]
-
--- An interner that keeps its texts wrote its own blocks alone.
-kept_frame : {old new : View} {names after : Symbols} (more : List Block) → KeepsTexts old new names after more
-    → Frame old.memory new.memory (names_footprint old.memory names) (names_footprint new.memory after)
-kept_frame {names = x0} {after = x1} more keeps = grind (arith, nat_tests, frame_weaken, apart_both)
-
--- A call that interns a text writes blocks of the interner alone.
-pub interned : {old new : View} {names after : Symbols} {text : List ℕ} {result : Result ℕ AllocError}
-    → Interns old new names after text result
-    → Frame old.memory new.memory (names_footprint old.memory names) (names_footprint new.memory after)
-interned interns = kept_frame interns.texts.0 interns.texts.1
 
 module _ {T : Type 0} (item : Ghosts T) where
   pub list_length : (memory : Memory) (nodes : Vec T) → length (vec_list item memory nodes) ≡ nodes.raw.len
@@ -125,7 +114,7 @@ module _ {T : Type 0} {item : Ghosts T} {is_after : ℕ → T → Type 0} where
       apart = all_turned (tree.nodes.raw.block ∷ []) (names_footprint new.memory names) apart;
     };
     frame = frame_behind old.memory new.memory (names_footprint old.memory tree.names) (names_footprint new.memory names)
-        (tree.nodes.raw.block ∷ []) (interned interns);
+        (tree.nodes.raw.block ∷ []) interns.frame;
   }
 
 -- n addresses as a block

@@ -1,6 +1,6 @@
 -- What `intern` does, in each case.
 use Rattle.std.proofs.lemmas.Bool.Decides.{nat_tests}
-use Rattle.std.proofs.Common.{◌≡◌, ℕ, ◌+◌, ◌^◌, ◌<◌, ◌≤◌, List, [], ◌∷◌, ◌++◌, length, refl, ap, ◌∙◌, arith, inl, inr, ◌≢◌, subst, Option, Bool, false, Some, None, Ok, Err, append-nil}
+use Rattle.std.proofs.Common.{◌≡◌, ℕ, ◌+◌, ◌^◌, ◌<◌, ◌≤◌, List, [], ◌∷◌, ◌++◌, length, refl, sym, ap, ◌∙◌, arith, inl, inr, ◌≢◌, subst, Option, Bool, false, Some, None, Ok, Err, append-nil}
 use Rattle.std.specs.Prelude.{Result, ◌↔◌, is_some}
 use Rattle.std.proofs.lemmas.Slice.Eq.{bytes_eq-Decides}
 use Rattle.arena_chunks.specs.Memory.{Memory}
@@ -30,7 +30,7 @@ use Rattle.arena_symbols.specs.Listing.{CanList, Lists}
 use Rattle.arena_symbols.specs.Names.{name_kind, blocks_of, contents_of, texts_in, names_in, own_blocks, names_footprint, names_credit, IsInternerIn}
 use Rattle.arena_symbols.specs.Paying.{Pays, far_up}
 use Rattle.arena_symbols.specs.declared.symbols.Symbols.{Symbols}
-use Rattle.arena_symbols.proofs.InternLemmas.{AreTexts, IsNewText, InternerStays, interner_beside, length_names, blocks_push, can_append, appended, not_appended}
+use Rattle.arena_symbols.proofs.InternLemmas.{AreTexts, IsNewText, InternerStays, interner_beside, length_names, blocks_push, kept_frame, can_append, appended, not_appended}
 use Rattle.arena_symbols.proofs.NumberLemmas.{number_push}
 use Rattle.arena_symbols.proofs.PayLemmas.{pays_nothing, pays_as, pays_more, pays_then, pays_text}
 
@@ -55,7 +55,10 @@ module _ (old : View) (s : Symbols) (text : List ℕ) (held : IsInternerIn old.m
       → (e ≢ CapacityOverflow → IsTextDenied old new s u text (refusal e))
       → Pays {X = ℕ} far_up (1024 + length text) (names_credit s) (names_credit u) old new (Err e)
       → Frame old.memory new.memory (own_blocks s) (own_blocks u) → Interns old new s u text (Err e)
-  interns_not new u e none held same kept full leaves denied pays frame = grind (arith, nat_tests, append-nil)
+  interns_not new u e none held same kept full leaves denied pays frame =
+      let texts : KeepsTexts old new s u [] = record { blocks = ap blocks_of same ∙ sym (append-nil (blocks_of list)); frame = frame } in
+      let all = kept_frame [] texts in
+      grind (arith, nat_tests, texts, all)
 
   -- There are as many texts as there can be.
   pub interns_full : number_of names text ≡ None → most_texts ≤ s.texts.raw.len → Interns old old s s text (Err CapacityOverflow)
@@ -138,6 +141,7 @@ module _ (old : View) (s : Symbols) (text : List ℕ) (held : IsInternerIn old.m
             let blocks = ap blocks_of (lists.list_is ∙ ap (λ (l : List Str). l ++ t ∷ []) stays.texts) ∙ blocks_push list t in
             let texts : (more : List Block) × KeepsTexts old new s now more =
             (t.block ∷ [], record { blocks = blocks; frame = framed lists.frame }) in
+            let all = kept_frame texts.0 texts.1 in
             let same = (bytes_eq-Decides text text).1 refl in
             let pays = pays_all (Ok at) lists in
             let took : TakesText old new s now text = inr (
@@ -149,7 +153,7 @@ module _ (old : View) (s : Symbols) (text : List ℕ) (held : IsInternerIn old.m
                 both = subst (λ (b : Bool). TakesBoth name_kind.keys name_kind b mid new s.texts v s.numbers n) not_there lists.took;
               },
             ) in
-            grind (arith, are.0, named, none, number, same, lists.place, few, length_names old.memory s, took, pays, texts)
+            grind (arith, are.0, named, none, number, same, lists.place, few, length_names old.memory s, took, pays, texts, all)
         interns_placed (Err e) texts lists =
             let are = not_appended mid new n v stays.held fresh lists in
             interns_not new now e none are.0 (lists.kept.1 ∙ stays.texts)

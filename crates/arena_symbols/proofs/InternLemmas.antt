@@ -10,7 +10,7 @@ use Rattle.arena_chunks.specs.Source.{View}
 use Rattle.arena_chunks.specs.Frame.{Frame, IsApart, AreAllApart}
 use Rattle.arena_store.specs.declared.block.Block.{Block}
 use Rattle.arena_chunks.specs.declared.allocator.text.Str.{Str}
-use Rattle.arena_chunks.proofs.Layers.{all_from_both, all_of_both, all_among, all_each, frame_keeps_all}
+use Rattle.arena_chunks.proofs.Layers.{all_from_both, all_of_both, all_among, all_each, apart_both, frame_keeps_all, frame_weaken}
 use Rattle.arena_items.specs.Footprint.{AreReadable}
 use Rattle.arena_items.specs.laws.FootprintLaws.{readable_both}
 use Rattle.arena_items.specs.Values.{bytes_of}
@@ -22,6 +22,7 @@ use Rattle.hash_ring.specs.declared.hasher.FxHasher.{FxHasher}
 use Rattle.arena_hash.specs.declared.map.HashMap.{HashMap}
 use Rattle.arena_vec.specs.declared.vec.Vec.{Vec}
 use Rattle.arena_symbols.specs.Interner.{number_of, most_texts}
+use Rattle.arena_symbols.specs.Interning.{KeepsTexts}
 use Rattle.arena_symbols.specs.Listing.{CanList, Lists}
 use Rattle.arena_symbols.specs.laws.NameLaws.{all_at, behind_same, interner_of, names_readable, names_same, texts_same, names_held_again}
 use Rattle.arena_symbols.specs.Names.{name_kind, blocks_of, contents_of, texts_in, names_in, own_blocks, names_footprint, IsInternerIn}
@@ -33,6 +34,14 @@ use Rattle.arena_symbols.proofs.NumberLemmas.{number_push, distinct_push}
 
 pub blocks_push : (list : List Str) (t : Str) → blocks_of (list ++ t ∷ []) ≡ blocks_of list ++ t.block ∷ []
 blocks_push list t = map-append (λ (t : Str). t.block) list (t ∷ [])
+
+-- Texts that are kept, with more behind: only the interner's blocks, and new ones, were written.
+pub kept_frame : {old new : View} {s t : Symbols} (more : List Block) → KeepsTexts old new s t more
+    → Frame old.memory new.memory (names_footprint old.memory s) (names_footprint new.memory t)
+kept_frame {old = old} {new = new} {s = s} {t = t} more keeps = rw keeps.blocks (frame_weaken old.memory new.memory (own_blocks s)
+    (names_footprint old.memory s) (own_blocks t ++ more) (own_blocks t ++ (blocks_of (texts_in old.memory s) ++ more))
+    (λ addr n some apart. (apart.0, (apart.1.0, tt)))
+    (λ addr n some apart after. (after.0, (after.1.0, apart_both addr n _ _ apart.1.1 after.1.1))) keeps.frame)
 
 -- the contents of a text in a list, which is readable with the others
 pub name_at : (m : Memory) (list : List Str) (n : ℕ) (t : Str) → slice_get list n ≡ Some t

@@ -8,7 +8,7 @@ use Rattle.arena_chunks.specs.Memory.{Memory}
 use Rattle.arena_chunks.specs.Source.{View}
 use Rattle.arena_chunks.specs.Frame.{Frame, AreAllApart}
 use Rattle.arena_store.specs.declared.block.Block.{Block}
-use Rattle.arena_chunks.proofs.Layers.{all_apart, all_from_none, all_from_both, apart_both, frame_then, frame_weaken, frame_beside, frame_behind, frame_keeps_all}
+use Rattle.arena_chunks.proofs.Layers.{all_apart, all_from_none, all_from_both, frame_then, frame_beside, frame_behind, frame_keeps_all}
 use Rattle.arena_items.specs.Asks.{refusal}
 use Rattle.arena_items.specs.Costs.{Costs}
 use Rattle.arena_items.specs.Room.{SamePlaces}
@@ -18,7 +18,7 @@ use Rattle.arena_items.proofs.Layers.{stays_readable, stays_agree, stays_apart, 
 use Rattle.arena_symbols.specs.Interner.{number_of, most_texts}
 use Rattle.arena_symbols.specs.Interning.{Interns}
 use Rattle.arena_symbols.specs.Named.{AreNames, Moves, IsNumbered, TakesName, IsNameDenied, Declares, Spends, DeclaresWithin, OwnScopeWithin, IsFullFor, all_credit, meaning}
-use Rattle.arena_symbols.specs.Names.{names_in, own_blocks, names_footprint, names_credit}
+use Rattle.arena_symbols.specs.Names.{names_in, names_footprint, names_credit}
 use Rattle.arena_symbols.specs.Scoping.{innermost, is_in_last, outer_of, with_pair, pair_count, most_scopes, most_pairs}
 use Rattle.arena_symbols.specs.Paying.{Pays, far_up}
 use Rattle.arena_symbols.specs.TableCalls.{TakesPair, IsPairDenied, Defines}
@@ -58,16 +58,12 @@ module _ {old new : View} {n : Names} {t : Symbols} {name : List ℕ} {result : 
   texts_moved =
       let table = table_blocks n.scopes in
       let names = names_footprint new.memory t in
-      let frame : Frame old.memory new.memory (names_footprint old.memory n.symbols) names = rw interns.texts.1.blocks
-      (frame_weaken _ _ (own_blocks n.symbols) _ (own_blocks t ++ interns.texts.0) _
-      (λ addr k some apart. (apart.0, (apart.1.0, tt)))
-      (λ addr k some apart after. (after.0, (after.1.0, apart_both addr k _ _ apart.1.1 after.1.1))) interns.texts.1.frame) in
-      let stays = frame_keeps_all old.memory new.memory _ names table frame
+      let stays = frame_keeps_all old.memory new.memory _ names table interns.frame
       (table_readable entry_item old.memory n.scopes held.scopes) held.apart in
       let agree = stays_agree old.memory new.memory names table stays in
       let again = table_held_again entry_item old.memory new.memory n.scopes agree held.scopes (stays_readable _ _ names table stays) in
       let same = table_same entry_item old.memory new.memory n.scopes agree in
-      grind (arith, interns.held, again, stays_apart _ _ names table stays, frame_behind _ _ _ _ table frame, same)
+      grind (arith, interns.held, again, stays_apart _ _ names table stays, frame_behind _ _ _ _ table interns.frame, same)
 
 pub moves_then : {old mid new : Memory} {n m k : Names} → Moves old mid n m → Moves mid new m k → Moves old new n k
 moves_then first last = record { held = last.held; frame = frame_then _ _ _ _ _ _ first.frame last.frame }

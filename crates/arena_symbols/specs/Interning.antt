@@ -39,7 +39,8 @@ IsTextDenied old new s t text answer = (Asked (Fresh (length text) 1) old new an
     ⊎ ((block : Block) × (mid : View) × Asked (Fresh (length text) 1) old mid (Placed block)
     × IsBothDenied name_kind.keys name_kind false mid new s.texts t.texts s.numbers answer)
 
--- A text is given its number: the one that it has, or the next one. If refused, the texts are unchanged.
+-- A text is given its number: the one that it has, or the next one. If refused, the texts are unchanged. Only the
+-- interner's blocks, and new ones, were written.
 pub record Interns (old new : View) (s t : Symbols) (text : List ℕ) (result : Result ℕ AllocError) : Type 0 where
   pub held : IsInternerIn new.memory t
   pub names : OnOk result (names_in new.memory t ≡ with_text (names_in old.memory s) text)
@@ -54,6 +55,7 @@ pub record Interns (old new : View) (s t : Symbols) (text : List ℕ) (result : 
   pub fresh : OnErr result (number_of (names_in old.memory s) text ≡ None)
   pub pays : Pays far_up (1024 + length text) (names_credit s) (names_credit t) old new result
   pub texts : (more : List Block) × KeepsTexts old new s t more
+  pub frame : Frame old.memory new.memory (names_footprint old.memory s) (names_footprint new.memory t)
 
 -- An interner without texts, and without bytes in the arena: it is held in every arena, and apart from all blocks.
 pub record IsNewInterner (s : Symbols) : Type 0 where

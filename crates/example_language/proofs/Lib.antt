@@ -1,9 +1,4 @@
-pub mod CountLemmas
-pub mod GrammarLemmas
+pub mod PlacingLemmas
 pub mod ReadingLemmas
-pub mod RefusalLemmas
-pub mod SpellingLemmas
 pub mod TreeLemmas
 pub mod TreeValueLemmas
-pub mod ValueLemmas
-pub mod WordLemmas

@@ -1,4 +1,3 @@
-pub mod Building
 pub mod Copying
 pub mod Grammar
 pub mod Meaning

@@ -4,10 +4,12 @@ use Rattle.std.specs.Prelude.{Option, Some, None, Result, Ok, Err, option_map}
 use Rattle.std.specs.List.{list_all, slice_split}
 use Rattle.std.specs.Char.{is_ascii_alphabetic, is_ascii_digit}
 use Rattle.std.specs.Str.Parse.{digits_value}
+use Rattle.example_language.specs.declared.nodes.Sign.{Sign}
+use Rattle.example_language.specs.declared.nodes.Sign.TheVariants.{Plus, Times}
 use Rattle.example_language.specs.declared.parsing.ParseErr.{ParseErr}
 use Rattle.example_language.specs.declared.parsing.ParseErr.TheVariants.{Token as BadToken, Operands, TooDeep}
 use Rattle.example_language.specs.declared.parsing.Token.{Token}
-use Rattle.example_language.specs.declared.parsing.Token.TheVariants.{Number, Name, Sum, Product}
+use Rattle.example_language.specs.declared.parsing.Token.TheVariants.{Number, Name, Join as JoinSign}
 
 -- ---- Words
 
@@ -24,44 +26,46 @@ number_in word =
 -- what a word is, if it is a token
 abbrev pub token_of : List ℕ → Option Token
 token_of word =
-    if bytes_eq word (codes "+") then Some Sum else (
-    if bytes_eq word (codes "*") then Some Product else (
+    if bytes_eq word (codes "+") then Some (JoinSign Plus) else (
+    if bytes_eq word (codes "*") then Some (JoinSign Times) else (
     if is_name word then Some Name else option_map (λ (n : ℕ). Number n) (number_in word)))
 
 -- ---- Trees
 
--- numbers, names, sums and products
+-- numbers, names, and two trees joined by a sign
 pub data Expr : Type 0 where
   Num : (n : ℕ) → Expr
   Var : (name : List ℕ) → Expr
-  Add : (left right : Expr) → Expr
-  Mul : (left right : Expr) → Expr
+  Join : (sign : Sign) (left right : Expr) → Expr
 
--- What a token makes of the trees before it, the last one first: a number and a name are trees, and a sign joins the
--- last two. `None` if there are fewer.
-abbrev pub applied : Token → List ℕ → List Expr → Option (List Expr)
-applied (Number n) word trees = Some (Num n ∷ trees)
-applied Name word trees = Some (Var word ∷ trees)
-applied Sum word (right ∷ left ∷ trees) = Some (Add left right ∷ trees)
-applied Product word (right ∷ left ∷ trees) = Some (Mul left right ∷ trees)
-applied token word trees = None
+-- At most 64 trees may wait for their sign.
+abbrev pub fitting : ℕ → List Expr → Result (List Expr) ParseErr
+fitting at trees = if nat_lt 64 (length trees) then Err (TooDeep at) else Ok trees
+
+-- What a word at this byte makes of the trees before it, the last one first, by what it is: a number and a name are
+-- trees, and a sign joins the last two.
+abbrev pub applied : Option Token → List ℕ → ℕ → List Expr → Result (List Expr) ParseErr
+applied None word at trees = Err (BadToken at)
+applied (Some (Number n)) word at trees = fitting at (Num n ∷ trees)
+applied (Some Name) word at trees = fitting at (Var word ∷ trees)
+applied (Some (JoinSign sign)) word at (right ∷ left ∷ trees) = fitting at (Join sign left right ∷ trees)
+applied (Some (JoinSign sign)) word at trees = Err (Operands at)
+
+-- the first error, or what this function makes of the result
+abbrev pub and_then : {X Y E : Type 0} → (X → Result Y E) → Result X E → Result Y E
+and_then f (Ok x) = f x
+and_then f (Err e) = Err e
 
 -- the tree that is left at the end of a text, if it is one
 abbrev pub only_tree : ℕ → List Expr → Result Expr ParseErr
 only_tree end (tree ∷ []) = Ok tree
 only_tree end trees = Err (Operands end)
 
--- What words give after these trees. The next one begins at `at`; at the end that is one byte past the text. At most 64
--- trees may wait for their sign.
+-- What words give after these trees. The next one begins at `at`; at the end that is one byte past the text.
 abbrev pub read : ℕ → List Expr → List (List ℕ) → Result Expr ParseErr
 read at trees [] = only_tree (at - 1) trees
-read at trees (word ∷ words) = elim (token_of word) [
-  | None ↦ Err (BadToken at)
-  | Some token ↦ elim (applied token word trees) [
-    | None ↦ Err (Operands at)
-    | Some more ↦ if nat_lt 64 (length more) then Err (TooDeep at) else read (at + (length word + 1)) more words
-  ]
-]
+read at trees (word ∷ words) =
+    and_then (λ (more : List Expr). read (at + (length word + 1)) more words) (applied (token_of word) word at trees)
 
 -- the words of a text, which have a space between
 abbrev pub words_of : List ℕ → List (List ℕ)

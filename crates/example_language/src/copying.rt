@@ -1,16 +1,16 @@
 // Nodes that outlive the arena of their tree.
 ghost use Rattle.std.specs.Prelude.{◌≡◌, [], IfOk, OnOk, IfErr, OnErr, Ok};
+ghost use Rattle.arena.specs.AstRows.{no_rows};
 ghost use Rattle.arena.specs.Frame.{Frame};
 ghost use Rattle.arena.specs.Resizes.{NoneReadable};
 ghost use Rattle.arena.specs.Vecs.{vec_list};
 ghost use Rattle.example_language.specs.Copying.{CopyRefused, NotKept};
 ghost use Rattle.example_language.specs.Meaning.{Expr, reading};
-ghost use Rattle.example_language.specs.Nodes.{node_item};
-ghost use Rattle.example_language.specs.Placing.{no_rows, placed};
-ghost use Rattle.example_language.specs.Trees.{AreNodesIn};
+ghost use Rattle.example_language.specs.Placing.{placed};
+ghost use Rattle.example_language.specs.Trees.{AreNodesIn, node_item};
 
+use crate::nodes::NodeList;
 use crate::parsing::{ParseErr, parse};
-use crate::trees::NodeList;
 use arena::{Allocator, ChunkSource, CloneIn, Grown};
 
 /// Copies nodes to another arena. The copy is the same list; the names stay behind.
@@ -18,6 +18,7 @@ use arena::{Allocator, ChunkSource, CloneIn, Grown};
 /// # Errors
 ///
 /// Those of `clone_in`.
+#[tactic(auto, unfolding(arena_rules::specs::Rounding::up, arena_items::specs::Layout::second_at, arena_items::specs::Layout::pair_size))]
 pub fn copy_nodes<C: ChunkSource, D: ChunkSource>(
     nodes: &NodeList,
     from: &Allocator<C>,

@@ -1,8 +1,9 @@
 // What texts mean by the grammar, and what the nodes of trees are worth.
 ghost use Rattle.std.specs.Prelude.{◌≡◌, ◌≤◌, ◌↔◌, List, ℕ, Ok, Err};
+ghost use Rattle.arena.specs.AstRows.{no_rows};
 ghost use Rattle.example_language.specs.Grammar.{Spells, waits, IsFirstError};
 ghost use Rattle.example_language.specs.Meaning.{Expr, words_of, reading};
-ghost use Rattle.example_language.specs.Placing.{no_rows, placed};
+ghost use Rattle.example_language.specs.Placing.{placed};
 ghost use Rattle.example_language.specs.Values.{value_of, tree_value};
 ghost use Rattle.example_language.specs.declared.parsing.ParseErr.{ParseErr};
 

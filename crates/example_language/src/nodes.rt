@@ -1,14 +1,12 @@
-// Nodes, their byte form, and their copies.
-ghost use Rattle.std.specs.Prelude.{◌≡◌, ℕ, ◌^◌, ◌≤◌, List, length, refl};
-ghost use Rattle.arena.specs.Kinds.{plain};
-ghost use Rattle.arena.specs.KindLaws.{plain_lawful};
-ghost use Rattle.example_language.specs.Nodes.{IsNodeValue, node_bytes, node_of, node_back, plain_12_4};
-ghost use Rattle.example_language.specs.Nodes.{tag_of, first_of, second_of, node_with};
+// Nodes: their parts, which are their byte form, and the indices in them.
+ghost use Rattle.std.specs.Prelude.{◌≡◌, ◌<◌, ◌==◌, ℕ, if◌then◌else◌, refl};
+ghost use Rattle.example_language.specs.Nodes.{IsAfter, sign_node};
+ghost use Rattle.example_language.specs.declared.nodes.Node.TheVariants.{Number, Name, Sum, Product};
 
-use arena::{Allocator, ChunkSource, CloneIn, CloneInSemanticIds, Grown, Item, Origin};
+use arena::{Ast, ByParts, Linked, Parts, Plain, Vec};
 
 /// A node of a tree.
-#[derive(Clone, Copy)]
+#[derive(Clone, Copy, PartialEq, Eq, Debug)]
 pub enum Node {
     /// A number.
     Number(u32),
@@ -20,102 +18,67 @@ pub enum Node {
     Product(u32, u32),
 }
 
-// The tag of a node's variant, and its two numbers: 0 for one that the variant doesn't have.
-fn parts(node: Node) -> (u32, u32, u32)
-    ensures tag { result.0 ≡ tag_of node }
-    ensures first { result.1 ≡ first_of node }
-    ensures second { result.2 ≡ second_of node }
-{
-    match node {
-        Node::Number(n) => (0, n, 0),
-        Node::Name(n) => (1, n, 0),
-        Node::Sum(m, n) => (2, m, n),
-        Node::Product(m, n) => (3, m, n),
-    }
-}
+impl Parts for Node {
+    type Form = (u8, (u32, u32));
 
-// The node with a tag and two numbers. Any tag above 2 is that of a product.
-fn node_with(tag: u8, first: u32, second: u32) -> Node
-    ensures node { result ≡ node_with tag first second }
-    ensures known { IsNodeValue result }
-{
-    match tag {
-        0 => Node::Number(first),
-        1 => Node::Name(first),
-        2 => Node::Sum(first, second),
-        _ => Node::Product(first, second),
-    }
-}
+    ghost parts = { elim [
+      | Number n ↦ (0, (n, 0))
+      | Name n ↦ (1, (n, 0))
+      | Sum m n ↦ (2, (m, n))
+      | Product m n ↦ (3, (m, n))
+    ] };
 
-impl Item for Node {
-    ghost is_value = { IsNodeValue };
+    ghost whole = { λ p. if p.0 == 0 then Number p.1.0 else (if p.0 == 1 then Name p.1.0 else (
+        if p.0 == 2 then Sum p.1.0 p.1.1 else Product p.1.0 p.1.1)) };
 
-    ghost encoded = { node_bytes };
+    ghost back = { elim [ Number n ↦ refl | Name n ↦ refl | Sum m n ↦ refl | Product m n ↦ refl ] };
 
-    ghost decoded = { node_of };
-
-    ghost SIZE = { 12 };
-
-    ghost ALIGN = { 4 };
-
-    const SIZE: u64 = 12;
-
-    const ALIGN: u64 = 4;
-
-    ghost round_trip = { λ v h s. node_back v h };
-
-    ghost encoded_length = { λ v h s. refl };
-
-    ghost layout = { plain_12_4 };
-
-    fn known(&self) {
+    fn parts(self) -> Self::Form {
         match self {
-            Node::Number(n) => n.known(),
-            Node::Name(n) => n.known(),
-            Node::Sum(m, n) => {
-                m.known();
-                n.known();
-            }
-            Node::Product(m, n) => {
-                m.known();
-                n.known();
-            }
+            Node::Number(n) => (0, (n, 0)),
+            Node::Name(n) => (1, (n, 0)),
+            Node::Sum(m, n) => (2, (m, n)),
+            Node::Product(m, n) => (3, (m, n)),
         }
     }
 
-    fn encode(self, out: &mut [u8]) {
-        let (tag, first, second) = parts(self);
-        let (tag_bytes, rest) = out.split_at_mut(4);
-        let (first_bytes, second_bytes) = rest.split_at_mut(4);
-        tag.encode(tag_bytes);
-        first.encode(first_bytes);
-        second.encode(second_bytes);
-    }
-
-    fn decode(bytes: &[u8]) -> Self {
-        node_with(
-            bytes[0],
-            u32::decode(&bytes[4..8]),
-            u32::decode(&bytes[8..]),
-        )
+    fn whole(form: Self::Form) -> Self {
+        let (tag, (m, n)) = form;
+        match tag {
+            0 => Node::Number(m),
+            1 => Node::Name(m),
+            2 => Node::Sum(m, n),
+            _ => Node::Product(m, n),
+        }
     }
 }
 
-impl CloneIn for Node {
-    ghost kind = { plain };
+impl Plain for Node {}
 
-    ghost lawful = { plain_lawful };
+impl Linked for Node {
+    ghost is_after = { IsAfter };
+}
 
-    fn is_flat(_ids: CloneInSemanticIds) -> bool {
-        true
-    }
+/// The handle of a list of nodes.
+pub type NodeList = Vec<ByParts<Node>>;
 
-    fn copy_of<O: Origin<D>, D: ChunkSource>(
-        &self,
-        _ids: CloneInSemanticIds,
-        _from: &O,
-        _to: &mut Allocator<D>,
-    ) -> Grown<Self> {
-        Ok(*self)
+/// The handle of a tree. Its last node is the whole of it.
+pub type Tree = Ast<ByParts<Node>>;
+
+// What joins two trees.
+#[derive(Clone, Copy)]
+pub(crate) enum Sign {
+    Plus,
+    Times,
+}
+
+// The node of two trees that a sign joins.
+pub(crate) fn sign_node(sign: Sign, left: u32, right: u32) -> Node
+    ensures node { result ≡ sign_node sign left right }
+    ensures after { (at : ℕ) → left < at → right < at → IsAfter at result }
+{
+    match sign {
+        Sign::Plus => Node::Sum(left, right),
+        Sign::Times => Node::Product(left, right),
     }
 }

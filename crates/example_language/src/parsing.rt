@@ -1,17 +1,18 @@
 // Texts, and the trees that they become.
-ghost use Rattle.std.specs.Prelude.{◌≡◌, ◌<◌, List, [], ◌∷◌, ◌++◌, ℕ, length, Ok, IfOk, IfErr, OnErr};
+ghost use Rattle.std.specs.Prelude.{◌≡◌, ◌<◌, List, [], ◌∷◌, ◌++◌, ℕ, Some, length, IfOk, IfErr, OnOk, OnErr};
 ghost use Rattle.arena.specs.AllocErrorType.{AllocError};
+ghost use Rattle.arena.specs.Asts.{AreBelow};
+ghost use Rattle.arena.specs.AstRows.{NameRefused};
 ghost use Rattle.arena.specs.Frame.{Frame};
-ghost use Rattle.example_language.specs.Building.{ArePlaced, Takes};
-ghost use Rattle.example_language.specs.Meaning.{Expr, is_name, number_in, token_of};
-ghost use Rattle.example_language.specs.Parsing.{NameRefused, Parses};
-ghost use Rattle.example_language.specs.Placing.{rows_in};
-ghost use Rattle.example_language.specs.Trees.{IsAfter, IsTreeIn, IsBuilt, Moves, AreBelow};
+ghost use Rattle.example_language.specs.Meaning.{Expr, is_name, number_in, token_of, applied, reading};
+ghost use Rattle.example_language.specs.Nodes.{IsAfter};
+ghost use Rattle.example_language.specs.Parsing.{Completes, ReadsWord, RefusesWord, Fails, IsOfText, StopsAt};
+ghost use Rattle.example_language.specs.Placing.{ArePlaced};
+ghost use Rattle.example_language.specs.Trees.{IsTreeIn, IsBuilt, Moved, rows_in};
 ghost use Rattle.example_language.specs.declared.parsing.ParseErr.TheVariants.{Refused};
 
-use crate::nodes::Node;
-use crate::trees::Tree;
-use arena::{AllocError, Allocator, ChunkSource};
+use crate::nodes::{Node, Sign, Tree, sign_node};
+use arena::{AllocError, Allocator, ByParts, ChunkSource};
 use arrayvec::ArrayVec;
 
 /// Why a text has no tree.
@@ -40,8 +41,7 @@ impl From<AllocError> for ParseErr {
 enum Token {
     Number(u32),
     Name,
-    Sum,
-    Product,
+    Join(Sign),
 }
 
 // Whether the word is a name: letters, and at least one.
@@ -65,10 +65,10 @@ fn token_of(word: &str) -> Option<Token>
     ensures { result ≡ token_of word.now }
 {
     if word == "+" {
-        return Some(Token::Sum);
+        return Some(Token::Join(Sign::Plus));
     }
     if word == "*" {
-        return Some(Token::Product);
+        return Some(Token::Join(Sign::Times));
     }
     if is_name(word.as_bytes()) {
         return Some(Token::Name);
@@ -111,27 +111,58 @@ fn node_of<C: ChunkSource>(
 ) -> Result<Node, ParseErr>
     requires tree { IsTreeIn a.old.memory tree.old }
     requires stack { AreBelow tree.old.nodes.raw.len stack.old.items }
-    ensures moves { Moves a.old a.new tree.old tree.new }
+    ensures moved { Moved a.old a.new tree.old tree.new }
     ensures stack { AreBelow tree.new.nodes.raw.len stack.new.items }
     ensures node { IfOk result (IsAfter tree.new.nodes.raw.len) }
-    ensures takes { (trees : List Expr)
+    ensures completes { IfOk result (λ node. (trees : List Expr)
         → ArePlaced (rows_in a.old.memory tree.old) stack.old.items trees
-        → Takes word.now token at (rows_in a.new.memory tree.new) stack.new.items trees result }
-    ensures refused { IfErr result (λ e. (error : AllocError) → e ≡ ParseErr.Refused error
-        → (token ≡ Token.Name) × NameRefused a.old a.new tree.old word.now error) }
+        → Completes token word.now at (rows_in a.new.memory tree.new) stack.new.items trees node) }
+    ensures fails { IfErr result (λ e. (trees : List Expr)
+        → ArePlaced (rows_in a.old.memory tree.old) stack.old.items trees
+        → Fails (applied (Some token) word.now at trees)
+        (λ error. (token ≡ Token.Name) × NameRefused a.old a.new tree.old word.now error) e) }
 {
     match token {
         Token::Number(n) => Ok(Node::Number(n)),
-        Token::Name => Ok(Node::Name(tree.add_name(a, word)?)),
-        Token::Sum => {
+        Token::Name => Ok(Node::Name(tree.name(a, word)?)),
+        Token::Join(sign) => {
             let (left, right) = operands(stack, at)?;
-            Ok(Node::Sum(left, right))
-        }
-        Token::Product => {
-            let (left, right) = operands(stack, at)?;
-            Ok(Node::Product(left, right))
+            Ok(sign_node(sign, left, right))
         }
     }
+}
+
+// Reads a word: its node comes into the tree, and the index of the node on the stack.
+#[tactic(auto, using(crate::proofs::TreeLemmas::tree_stays), unfolding(arena_rules::specs::Rounding::up, arena_items::specs::Layout::second_at, arena_items::specs::Layout::pair_size))]
+fn read_word<C: ChunkSource>(
+    a: &mut Allocator<C>,
+    tree: &mut Tree,
+    stack: &mut Waiting,
+    word: &str,
+    at: usize,
+) -> Result<(), ParseErr>
+    requires tree { IsTreeIn a.old.memory tree.old }
+    requires stack { AreBelow tree.old.nodes.raw.len stack.old.items }
+    ensures moved { Moved a.old a.new tree.old tree.new }
+    ensures stack { OnOk result (AreBelow tree.new.nodes.raw.len stack.new.items) }
+    ensures reads { OnOk result ((trees : List Expr)
+        → ArePlaced (rows_in a.old.memory tree.old) stack.old.items trees
+        → ReadsWord word.now at trees (rows_in a.new.memory tree.new) stack.new.items) }
+    ensures fails { IfErr result (λ e. (trees : List Expr)
+        → ArePlaced (rows_in a.old.memory tree.old) stack.old.items trees
+        → Fails (applied (token_of word.now) word.now at trees)
+        (RefusesWord word.now at trees a.old a.new tree.old) e) }
+{
+    let Some(token) = token_of(word) else {
+        return Err(ParseErr::Token { at });
+    };
+    let node = node_of(a, tree, stack, word, token, at)?;
+    if stack.is_full() {
+        return Err(ParseErr::TooDeep { at });
+    }
+    let index = tree.add(a, ByParts(node))?;
+    stack.push(index);
+    Ok(())
 }
 
 /// Returns the tree of a text. What was in use before stays as it was.
@@ -143,23 +174,15 @@ fn node_of<C: ChunkSource>(
 #[tactic(auto, using(crate::proofs::TreeLemmas::others_stay, crate::proofs::TreeLemmas::built_then))]
 pub fn parse<C: ChunkSource>(a: &mut Allocator<C>, src: &str) -> Result<Tree, ParseErr>
     ensures tree { IfOk result (IsBuilt a.old a.new) }
-    ensures reading { Parses a.old a.new src.now result }
+    ensures reading { IfOk result (IsOfText src.now a.new.memory) }
+    ensures wrong { IfErr result (Fails (reading src.now) (StopsAt src.now a.old a.new)) }
     ensures others { Frame a.old.memory a.new.memory [] [] }
 {
     let mut tree = Tree::new_in();
     let mut stack = Waiting::new();
     let mut at = 0;
-    'tokens: for word in src.split(' ') {
-        let Some(token) = token_of(word) else {
-            return Err(ParseErr::Token { at });
-        };
-        let node = node_of(a, &mut tree, &mut stack, word, token, at)?;
-        if stack.is_full() {
-            return Err(ParseErr::TooDeep { at });
-        }
-        let index = tree.nodes.len();
-        tree.add_node(a, node)?;
-        stack.push(index);
+    'words: for word in src.split(' ') {
+        read_word(a, &mut tree, &mut stack, word, at)?;
         at += word.len() + 1;
     }
     if stack.len() != 1 {

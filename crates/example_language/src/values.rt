@@ -1,12 +1,11 @@
 // The values of nodes.
 ghost use Rattle.std.specs.Prelude.{◌≡◌, length, IfOk};
 ghost use Rattle.arena.specs.Vecs.{vec_list};
-ghost use Rattle.example_language.specs.Nodes.{node_item};
-ghost use Rattle.example_language.specs.Trees.{IsAfter, AreNodesIn};
+ghost use Rattle.example_language.specs.Nodes.{IsAfter};
+ghost use Rattle.example_language.specs.Trees.{AreNodesIn, node_item};
 ghost use Rattle.example_language.specs.Values.{node_value, last_value, value_of};
 
-use crate::nodes::Node;
-use crate::trees::NodeList;
+use crate::nodes::{Node, NodeList};
 use arena::{Allocator, ChunkSource, OutOfMemory};
 use std::alloc::Global;
 
@@ -36,6 +35,7 @@ fn last_value(values: &[u32]) -> Option<u32>
 /// # Errors
 ///
 /// Out of memory for the values of the nodes.
+#[tactic(auto, unfolding(arena_rules::specs::Rounding::up, arena_items::specs::Layout::second_at, arena_items::specs::Layout::pair_size))]
 pub fn value<C: ChunkSource>(
     alloc: Global,
     a: &Allocator<C>,
@@ -48,7 +48,7 @@ pub fn value<C: ChunkSource>(
     let mut values = Vec::new(alloc);
     'each: for i in 0..nodes.len() {
         let node = nodes.get(a, i);
-        let Some(value) = node_value(node, &values, names) else {
+        let Some(value) = node_value(node.0, &values, names) else {
             return Ok(None);
         };
         values.push(value)?;

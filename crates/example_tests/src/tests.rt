@@ -6,12 +6,12 @@ use std::fmt::Debug;
 use std::process::Abort;
 
 // An allocator with ample memory.
-fn ample(alloc: Global) -> Allocator<MemoryChunks> {
+pub(crate) fn ample(alloc: Global) -> Allocator<MemoryChunks> {
     Allocator::new(alloc, MemoryChunks::new(alloc, 1 << 28))
 }
 
 // Fails the test if the two values differ. `at` names the case.
-fn same<T: Copy + PartialEq + Debug>(rt: &impl Abort, at: &str, found: T, wanted: T) {
+pub(crate) fn same<T: Copy + PartialEq + Debug>(rt: &impl Abort, at: &str, found: T, wanted: T) {
     assert_eq!(rt; found, wanted, "{at:?}");
 }
 

@@ -1,10 +1,30 @@
 use Rattle.std.proofs.lemmas.Bool.Decides.{nat_tests}
-use Rattle.std.proofs.Common.{arith}
+use Rattle.std.proofs.Common.{◌≡◌, List, [], ◌∷◌, refl, sym, subst, arith, flat_map, Option}
+use Rattle.std.specs.List.{AllByRecursion}
 use Rattle.std.proofs.lemmas.List.{map-id}
+use Rattle.arena.proofs.AstLayers.{error_kept}
 use Rattle.arena.proofs.BlockLayers.{frame_forget}
-use Rattle.example_language.proofs.RefusalLemmas.{error_kept}
-use Rattle.example_language.proofs.TreeLemmas.{all_plain, only_block}
+use Rattle.arena.specs.AllocErrorType.{AllocError}
+use Rattle.arena.specs.Asks.{Ask, AsksFor}
+use Rattle.arena.specs.Asts.{AreOrdered}
+use Rattle.arena.specs.BlockType.{Block}
+use Rattle.arena.specs.Source.{View}
+use Rattle.example_language.specs.Trees.{is_after}
 use Rattle.example_language.proofs.copying.copy_nodes.Goals as goal
+
+-- Plain values have no conditions to be held, and ask for no blocks of their own.
+
+all_plain : {A : Type 0} (xs : List A) → AllByRecursion (λ (x : A). Unit {0}) xs
+all_plain [] = tt
+all_plain (x ∷ xs) = (tt, all_plain xs)
+
+none_asked : {A B : Type 0} (xs : List A) → flat_map {A = B} (λ (x : A). []) xs ≡ []
+none_asked [] = refl
+none_asked (x ∷ xs) = none_asked xs
+
+only_block : {A : Type 0} (ask : Ask) (old new : View) (blocks : List Block) (end : Option AllocError) (xs : List A)
+    → AsksFor (ask ∷ flat_map {A = Ask} (λ (x : A). []) xs) old new blocks end → AsksFor (ask ∷ []) old new blocks end
+only_block ask old new blocks end xs asks = grind (arith, nat_tests, none_asked)
 
 pub clone_in-requires-clause-held : goal.clone_in-requires-clause-held
 clone_in-requires-clause-held g c = (c.requires.held, all_plain _)
@@ -16,4 +36,12 @@ pub returns-in_err-copy-clause-refused : goal.returns-in_err-copy-clause-refused
 returns-in_err-copy-clause-refused g c = grind (arith, nat_tests, error_kept, only_block)
 
 pub returns : goal.returns
-returns g c = grind (arith, nat_tests, map-id, frame_forget)
+returns g c =
+    let made = c.in_ok-copy.ensures.made in
+    let list = simp map-id at made.means in
+    record {
+      nodes = record { held = made.held.0; ordered = subst (AreOrdered is_after) (sym list) c.requires.ordered };
+      list = list;
+      refused = tt;
+      others = grind (arith, nat_tests, frame_forget);
+    }

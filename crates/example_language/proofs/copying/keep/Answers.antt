@@ -1,7 +1,7 @@
 use Rattle.std.proofs.lemmas.Bool.Decides.{nat_tests}
 use Rattle.std.proofs.Common.{arith, []}
 use Rattle.arena.proofs.BlockLayers.{frame_reflexive}
-use Rattle.example_language.proofs.RefusalLemmas.{error_kept}
+use Rattle.arena.proofs.AstLayers.{error_kept}
 use Rattle.example_language.proofs.copying.keep.Goals as goal
 
 pub returns-in_err-tree-clause-wrong : goal.returns-in_err-tree-clause-wrong

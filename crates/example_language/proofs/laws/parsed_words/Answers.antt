@@ -1,4 +1,4 @@
-use Rattle.example_language.proofs.GrammarLemmas.{tree_spelled, first_wrong}
+use Rattle.example_language.proofs.ReadingLemmas.{tree_spelled, first_wrong}
 use Rattle.example_language.proofs.laws.parsed_words.Goals as goal
 
 pub returns : goal.returns

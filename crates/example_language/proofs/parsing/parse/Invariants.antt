@@ -1,11 +1,12 @@
-use Rattle.example_language.specs.Placing.{rows_in}
-use Rattle.example_language.specs.Trees.{IsBuilt, AreBelow}
-use Rattle.example_language.proofs.ReadingLemmas.{IsReadTo}
+use Rattle.std.proofs.Common.{length}
+use Rattle.arena.specs.Asts.{AreBelow}
+use Rattle.example_language.specs.Trees.{rows_in, IsBuilt}
+use Rattle.example_language.proofs.PlacingLemmas.{IsReadTo}
 use Rattle.example_language.proofs.parsing.parse.Given as goal
 
-abbrev pub invariant-tokens : goal.invariant-tokens
-invariant-tokens g l = record {
+abbrev pub invariant-words : goal.invariant-words
+invariant-words g l = record {
   built : IsBuilt l.fn.a l.a l.tree;
   stack : AreBelow l.tree.nodes.raw.len l.stack.items;
-  reading : IsReadTo (goal.iterator-tokens g).next_gives l.src l.at (rows_in l.a.memory l.tree) l.stack.items l.word-iterator;
+  reads : IsReadTo l.src l.at (rows_in l.a.memory l.tree) l.stack.items (length l.yielded);
 }

@@ -1,6 +1,6 @@
 use Rattle.std.proofs.Common.{◌≡◌, [], drop, vec_len}
 use Rattle.arena.specs.Vecs.{vec_list}
-use Rattle.example_language.specs.Nodes.{node_item}
+use Rattle.example_language.specs.Trees.{node_item}
 use Rattle.example_language.specs.Values.{values_after}
 use Rattle.example_language.proofs.values.value.Given as goal
 

@@ -1,0 +1,1 @@
+pub use Rattle.arena_pool.proofs.Layers as PoolLayers
