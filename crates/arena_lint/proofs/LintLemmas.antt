@@ -134,8 +134,8 @@ module _ {bytes : List ℕ} {old new : View} {error : Option AllocError} (unused
   -- A text that has no tree is reported so.
   pub unparsed : (why : TreeErr) → ParsesInOnePass bytes old new (Err why) → TakesAtMost (parse_bytes (length bytes)) old new
       → Lints bytes old new (unparsed_by new.memory.state.is_growing why)
-  unparsed (tree.AllocErr k) parsed takes = let short = parsed.1 in
-      lints_unplaced new.memory.state.is_growing refl parsed.0 (inl (record { denied = short.denied; takes = takes.takes })) short.starved
+  unparsed (tree.AllocErr k) parsed takes = let short = parsed.2 in
+      lints_unplaced new.memory.state.is_growing refl parsed.0 (inl (record { refusals = k; ends = parsed.1; takes = takes.takes })) short.starved
       (λ still. let full = short.full still in record { still = full.still; short = omega (arith, full.short) })
   unparsed why parsed takes = grind (arith, nat_tests, lints)
 

@@ -1,15 +1,15 @@
 -- The report of a text, and what it takes.
 use Rattle.std.specs.Prelude.{◌≡◌, ℕ, ◌+◌, ◌*◌, ◌≤◌, ◌⊎◌, Bool, true, false, List, length, IfNone, Ok}
+use Rattle.arena_rules.specs.Moves.{reset}
 use Rattle.arena_chunks.specs.Source.{View}
 use Rattle.arena_chunks.specs.Asking.{AsksWithin, IsFull}
 use Rattle.arena_items.specs.Costs.{used, KeepsKind}
 use Rattle.arena_chunks.specs.Answers.Answer.{Refused as NotPlaced}
-use Rattle.arena_items.specs.Denied.{IsDenied}
 use Rattle.arena_rules.specs.Asking.{IsStarvedWithin}
 use Rattle.arena_symbols.specs.Named.{AreNewNames}
 use Rattle.arena_symbols.specs.declared.names.Names.{Names as Known}
 use Rattle.arena_tree.specs.Asking.{ProgramRan}
-use Rattle.arena_tree.specs.Layouts.{AskedFor}
+use Rattle.arena_tree.specs.Stopping.{ProgramEnds}
 use Rattle.arena_tree.specs.Parsing.{IsProgramText, parse_bytes}
 use Rattle.arena_tree.specs.declared.tree.TreeErr.{TreeErr}
 use Rattle.arena_tree.specs.declared.tree.TreeErr.TheVariants as tree
@@ -26,9 +26,10 @@ use Rattle.arena_lint.specs.Stopping.{DoesAll, StopsIn}
 abbrev pub lint_bytes : ℕ → ℕ
 lint_bytes length = 4096 * (length + 1)
 
--- A block that the text's tree asks for has no place, and no more is in use than a tree takes.
+-- The blocks that the text's tree asks for were placed up to one, which has no place. No more is in use than a tree takes.
 pub record StopsInTree (bytes : List ℕ) (old new : View) : Type 0 where
-  pub denied : IsDenied (AskedFor bytes) new
+  pub refusals : ℕ
+  pub ends : ProgramEnds bytes old new (NotPlaced refusals)
   pub takes : used new ≤ used old + parse_bytes (length bytes)
 
 -- The text's tree is placed, in just the blocks that it asks for, one after another.
@@ -57,6 +58,10 @@ pub record StopsInWalk (bytes : List ℕ) (old new : View) : Type 0 where
   pub refusals : ℕ
   pub stops : StopsIn trees mid first new (NotPlaced refusals)
 
+-- From this arena on, the block that the text's tree or a walk over it asks for next has no place.
+abbrev pub IsStopped : List ℕ → View → Type 0
+IsStopped bytes old = (new : View) × (StopsInTree bytes old new ⊎ StopsInWalk bytes old new)
+
 -- A text has its own report, on an arena of which nothing was used. Only the report of a program may say nothing of the
 -- text: where the arena doesn't place the block that it asks for next, in an arena that doesn't grow and has fewer bytes
 -- than it may take, or in one that grows and was starved; or where memory runs out.
@@ -71,6 +76,13 @@ pub record Lints (bytes : List ℕ) (old new : View) (report : FileReport) : Typ
   pub refused : report ≡ Refused
       → IsStarvedWithin (lint_bytes (length bytes)) old.memory.state new.memory.state old.source new.source
   pub kind : KeepsKind old.memory new.memory
+
+-- A text had this report, and then the arena was reset.
+pub record IsResetBehind (bytes : List ℕ) (report : FileReport) (old new : View) : Type 0 where
+  pub between : View
+  pub lints : Lints bytes old between report
+  pub state : new.memory.state ≡ reset between.memory.state
+  pub source : new.source ≡ between.source
 
 -- A text is a program, whose findings were taken.
 pub record Checks {F : Type 0} (taking : Taking F) (bytes : List ℕ) (old new : View) (first found : F) : Type 0 where

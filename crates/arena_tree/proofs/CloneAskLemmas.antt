@@ -1,7 +1,6 @@
 -- What copies of nodes and of lists of nodes ask for.
-use Rattle.std.proofs.lemmas.Bool.Decides.{nat_tests}
 use Rattle.std.proofs.lemmas.List.{take-append-drop}
-use Rattle.std.proofs.Common.{arith, ◌≡◌, ℕ, suc, ◌*◌, ◌==◌, if◌then◌else◌, Bool, true, false, refl, sym, ap, ◌∙◌, subst, Result, Ok, Err, Option, None, List, [], ◌∷◌, ◌++◌, length, take, drop, append_assoc, append-nil}
+use Rattle.std.proofs.Common.{◌≡◌, ℕ, suc, ◌*◌, ◌==◌, if◌then◌else◌, Bool, true, false, refl, sym, ap, ◌∙◌, subst, Result, Option, None, List, [], ◌∷◌, ◌++◌, length, take, drop, append_assoc, append-nil}
 use Rattle.arena_chunks.specs.Memory.{Memory}
 use Rattle.arena_chunks.specs.Source.{View}
 use Rattle.arena_chunks.specs.Answers.{Answer}
@@ -10,7 +9,7 @@ use Rattle.arena_items.specs.Asks.{Ask, NoBlock, Fresh, Asked, TakesBlock, refus
 use Rattle.arena_items.specs.Room.{SamePlaces}
 use Rattle.arena_items.specs.Values.{text_bytes}
 use Rattle.arena_items.specs.declared.room.AllocError.{AllocError}
-use Rattle.arena_items.proofs.Layers.{ends_then, ends_sooner}
+use Rattle.arena_items.proofs.Layers.{ends_then}
 use Rattle.tree_rules.specs.Trees.{Expr, Exprs, NoExprs, And, Num, Name, Neg, Sum, Prod, Let, Show, Stmts, NoStmts, Then}
 use Rattle.tree_rules.specs.Trees as tree
 use Rattle.tree_nodes.specs.declared.node.Kind.TheVariants as kind

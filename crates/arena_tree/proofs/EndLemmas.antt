@@ -1,7 +1,7 @@
 -- What a part that stopped asked for last, of what the whole program asks for.
 use Rattle.std.proofs.lemmas.Bool.Decides.{nat_tests}
 use Rattle.std.proofs.Common.{◌≡◌, ℕ, ◌+◌, ◌*◌, Bool, true, false, refl, sym, ap, ◌∙◌, subst, arith, Option, Some, None, List, [], ◌∷◌, ◌++◌, length, Err}
-use Rattle.std.specs.Prelude.{Result, slice_get}
+use Rattle.std.specs.Prelude.{Result}
 use Rattle.arena_chunks.specs.Source.{View}
 use Rattle.arena_chunks.specs.Answers.{Answer}
 use Rattle.arena_store.specs.declared.block.Block.{Block}
@@ -18,7 +18,7 @@ use Rattle.tree_rules.specs.Grammar.{AName, Negated, Times, Terms, LetLine, Show
 use Rattle.tree_rules.specs.Places.{LineHole, InProgram, InBlock, LetOf, ShowOf, FactorHole, First, Behind, Signed, TermHole, FirstTerm, ToAdd, ToTake, ExprHole, Within, Of, before_line, before_factor, before_term, before_expr}
 use Rattle.tree_reader.specs.Seen.{tokens_at}
 use Rattle.tree_nodes.specs.declared.node.Node.{Node}
-use Rattle.arena_tree.specs.Asking.{placed_by, Row, one_more, appended, four_growth, last_growth, line_growth, four_appended, last_appended, list_growth, factor_asks, factors_row, factors_asks, terms_row, terms_asks, line_asks, lines_row, program_asks, Signed as IsSigned, Ran, FactorRan, TermRan, TermsRan, LineRan, LinesRead, IsBlockAt, IsRow, RowRead}
+use Rattle.arena_tree.specs.Asking.{placed_by, Row, one_more, appended, four_growth, last_growth, line_growth, four_appended, list_growth, factor_asks, factors_row, factors_asks, terms_row, terms_asks, line_asks, lines_row, program_asks, Signed as IsSigned, Ran, FactorRan, TermRan, TermsRan, LineRan, LinesRead, IsBlockAt, IsRow, RowRead}
 use Rattle.arena_tree.specs.Parts.{spelled_at, IsTokenAt, sign_of, NoStar, TermsStop}
 use Rattle.arena_tree.specs.Stopping.{line_before, factor_before, term_before, expr_before, begin_lines, lines_before, IsUpTo}
 use Rattle.arena_tree.specs.Stops.{stop_of, OnArena}
@@ -27,7 +27,7 @@ use Rattle.arena_tree.specs.declared.stop.Stop.TheVariants.{AllocErr, OutOfMemor
 use Rattle.arena_tree.proofs.PartLemmas.{joined}
 use Rattle.arena_tree.proofs.PartCostLemmas.{IsPassedOn, passed_on}
 use Rattle.arena_tree.proofs.RunLemmas.{runs_length, ran_nothing, ran_block, ran_then, row_child, one_ends}
-use Rattle.arena_tree.proofs.PartRunLemmas.{token_spelled, growth_same, line_same, factors_spelled, factors_child, star_spelled, terms_next, joined_asks, joined_row, terms_spelled, sign_spelled, terms_child}
+use Rattle.arena_tree.proofs.PartRunLemmas.{token_spelled, growth_same, line_same, factors_spelled, factors_child, star_spelled, terms_next, joined_asks, joined_row, sign_spelled, terms_child}
 use Rattle.arena_tree.proofs.HoleLemmas.{Begins, factor_within, factors_within, star_within, taken_within, sum_within, sign_within, line_within, let_within, lines_within}
 
 -- ---- What `?` passes on

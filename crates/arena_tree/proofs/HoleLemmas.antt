@@ -1,16 +1,14 @@
 -- What is asked for before a place in a program is what the whole program asks for first.
-use Rattle.std.proofs.lemmas.Bool.Decides.{nat_tests}
-use Rattle.std.proofs.Common.{◌≡◌, ℕ, ◌+◌, ◌==◌, if◌then◌else◌, Bool, true, false, refl, sym, ap, ◌∙◌, subst, arith, Option, Some, None, List, [], ◌∷◌, ◌++◌, length, append_assoc, append-nil}
+use Rattle.std.proofs.Common.{◌≡◌, ℕ, ◌+◌, ◌==◌, if◌then◌else◌, Bool, true, false, refl, sym, ap, ◌∙◌, arith, Option, Some, None, List, [], ◌∷◌, ◌++◌, length, append_assoc, append-nil}
 use Rattle.std.proofs.lemmas.Option.{none-some, same_Some}
 use Rattle.arena_items.specs.Asks.{Ask, Fresh, room_ask}
-use Rattle.arena_items.specs.declared.room.Growth.{Growth}
 use Rattle.tree_rules.specs.Tokens.{Token, LetKey, Word, Number, Plus, Minus, Star, LeftParen, RightParen, LeftBrace, RightBrace, Equals, Semicolon, Placed, without_places}
-use Rattle.tree_rules.specs.Grammar.{Factor, ANumber, AName, InParens, Negated, Factors, OneFactor, Times, Terms, OneTerm, Added, Taken, Line, LetLine, ShowLine, BlockLine, Program, Empty, Next, spell_factor, spell_factors, spell_terms, spell_line, spell}
+use Rattle.tree_rules.specs.Grammar.{Factor, ANumber, AName, InParens, Negated, Factors, OneFactor, Times, Terms, OneTerm, Added, Taken, Line, BlockLine, Program, spell_factor, spell_factors, spell_terms, spell_line, spell}
 use Rattle.tree_rules.specs.Places.{LineHole, InProgram, InBlock, Owner, LetOf, ShowOf, FactorHole, First, Behind, Signed, TermHole, FirstTerm, ToAdd, ToTake, ExprHole, Within, Of, before_line, before_factor, before_term, before_expr}
 use Rattle.tree_rules.proofs.Holes.{owned}
 use Rattle.tree_rules.proofs.Places.{Place, LinePlace, NamePlace, EqualsPlace, FactorPlace, BehindPlace, factor_done, terms_done, around, line_added, shown}
 use Rattle.tree_rules.proofs.Readings.{go, go_factor, go_brace, go_line, go_name, go_equals, go_paren, go_end, go_behind, and_go, reads, begin, adds, takes, factor_reads, factors_read, terms_read, line_reads, value_begins, line_comes, factor_comes, term_comes, expr_comes}
-use Rattle.arena_tree.specs.Asking.{placed_by, Row, no_row, one_more, appended, four_growth, last_growth, line_growth, four_appended, last_appended, factor_asks, factors_row, factors_asks, terms_row, terms_asks, line_asks, lines_row, program_asks}
+use Rattle.arena_tree.specs.Asking.{placed_by, Row, one_more, appended, four_growth, four_appended, factor_asks, factors_row, factors_asks, terms_row, terms_asks, line_asks, lines_row, program_asks}
 use Rattle.arena_tree.specs.Parts.{NoStar, TermsStop, sign_of}
 use Rattle.arena_tree.specs.Stopping.{line_before, factor_before, term_before, expr_before, begin_lines, lines_before}
 use Rattle.arena_tree.proofs.PartLemmas.{joined}

@@ -1,10 +1,10 @@
-use Rattle.std.proofs.Common.{◌≡◌, ◌+◌, ℕ, ap, sym, subst, refl, inl, inr, length, length-set, length-take, set, take, ◌∙◌, arith}
+use Rattle.std.proofs.Common.{◌≡◌, ◌+◌, ℕ, ap, sym, refl, length, length-set, length-take, set, take, ◌∙◌, arith}
 use Rattle.std.specs.Prelude.{slice_range}
 use Rattle.arena_store.specs.declared.block.Block.{Block}
 use Rattle.tree_rules.specs.Grammar.{ANumber, AName, InParens, Negated, OneFactor, Times, OneTerm, factor_tree, factors_tree}
 use Rattle.arena_tree.specs.Subtrees.{OfExpr}
 use Rattle.tree_nodes.proofs.BuildLemmas.{prod_placed, number_placed}
-use Rattle.tree_nodes.proofs.RowLemmas.{row_none, read_none, read_more, read_frame, read_length, list_kept, exprs_built}
+use Rattle.tree_nodes.proofs.RowLemmas.{row_none, read_none, read_more, read_frame, list_kept, exprs_built}
 use Rattle.tree_nodes.proofs.SpendingLemmas.{spends_then, spends_more, asks_any, frees, frees_then, range_length}
 use Rattle.arena_tree.proofs.PartCostLemmas.{stops_more, arena_stops, text_stops, err_up_to, err_text}
 use Rattle.arena_tree.proofs.PartLemmas.{reads_then, reads_in, reads_leaf, reads_plain, reads_star, reads_sign, refused_then, in_paren, in_sign, unsigned, opens_paren, closes_paren, opens_sign, deep_paren, deep_sign, joined, terms_placed}

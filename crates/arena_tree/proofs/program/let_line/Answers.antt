@@ -1,4 +1,4 @@
-use Rattle.std.proofs.Common.{ℕ, ◌≤◌, arith, refl, sym, ◌∙◌, ◌-◌, inl}
+use Rattle.std.proofs.Common.{ℕ, ◌≤◌, arith, refl, sym, ◌∙◌, ◌-◌}
 use Rattle.tree_rules.specs.Refusals.{most_nest}
 use Rattle.arena_tree.specs.Spending.{most_for}
 use Rattle.tree_nodes.proofs.SpendingLemmas.{asks_any, spends_then, spends_more, frees, frees_then, range_length}

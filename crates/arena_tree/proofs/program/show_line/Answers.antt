@@ -1,8 +1,8 @@
-use Rattle.std.proofs.Common.{ℕ, arith, refl, sym, ◌∙◌, inl}
+use Rattle.std.proofs.Common.{ℕ, arith, refl, sym, ◌∙◌}
 use Rattle.tree_nodes.proofs.SpendingLemmas.{asks_any, spends_then, frees}
 use Rattle.arena_tree.proofs.PartCostLemmas.{err_up_to, err_text, arena_stops, text_stops}
 use Rattle.tree_rules.specs.Trees.{NoExprs, And}
-use Rattle.tree_rules.specs.Grammar.{ShowLine, Empty, terms_tree}
+use Rattle.tree_rules.specs.Grammar.{ShowLine, terms_tree}
 use Rattle.tree_nodes.proofs.LinesLemmas.{show_placed}
 use Rattle.tree_nodes.proofs.RowLemmas.{exprs_built}
 use Rattle.arena_tree.proofs.PartLemmas.{in_braces, reads_value}
