@@ -17,9 +17,7 @@ returns-in_default-clause-fails g c trees placed =
 
 pub returns-in_err-node-clause-fails : goal.returns-in_err-node-clause-fails
 returns-in_err-node-clause-fails g c =
-    error_kept (λ (e : ParseErr). (trees : List Expr) → ArePlaced (rows_in c.args.a.now.memory c.args.tree.now) c.args.stack.now.items trees
-    → Fails (applied (token_of c.args.word.now) c.args.word.now c.args.at trees)
-    (RefusesWord c.args.word.now c.args.at trees c.args.a.now c.node_of.new.a c.args.tree.now) e) _ c.from_residual.result c.from_residual.ensures
+    error_kept _ _ c.from_residual.result c.from_residual.ensures
     (λ trees placed. fails_too _
     (λ f is. ap (λ (o : Option Token). applied o c.args.word.now c.args.at trees) (sym c.in-Some.ensures) ∙ is)
     (λ error refused. inl (sym c.in-Some.ensures ∙ ap (λ (t : Token). Some t) refused.0, refused.1))
@@ -36,10 +34,7 @@ returns-in_err-index-clause-moved g c =
 pub returns-in_err-index-clause-fails : goal.returns-in_err-index-clause-fails
 returns-in_err-index-clause-fails g c =
     let room = room_left _ c.if-is_full.ensures.value c.if-is_full.ensures.fits in
-    error_kept (λ (e : ParseErr). (trees : List Expr) → ArePlaced (rows_in c.args.a.now.memory c.args.tree.now) c.args.stack.now.items trees
-    → Fails (applied (token_of c.args.word.now) c.args.word.now c.args.at trees)
-    (RefusesWord c.args.word.now c.args.at trees c.args.a.now c.add.new.a c.args.tree.now) e) _ c.from_residual-in_err-index.result
-    c.from_residual-in_err-index.ensures (λ trees placed.
+    error_kept _ _ c.from_residual-in_err-index.result c.from_residual-in_err-index.ensures (λ trees placed.
     let by = c.in_ok-node.ensures.completes trees placed in
     inr (record {
       more = by.tree ∷ by.others;
