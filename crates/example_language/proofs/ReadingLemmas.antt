@@ -1,10 +1,10 @@
 -- Words that are read one after another, and what they spell by the grammar.
 use Rattle.std.proofs.lemmas.Bool.Decides.{nat_tests}
-use Rattle.std.proofs.Common.{◌≡◌, ℕ, ◌+◌, ◌-◌, ◌≤◌, ◌<◌, List, [], ◌∷◌, ◌++◌, length, refl, sym, ap, subst, ◌∙◌, Some, None, Ok, Err, append_assoc, append-nil, inl, arith}
+use Rattle.std.proofs.Common.{◌≡◌, ℕ, ◌+◌, ◌≤◌, ◌<◌, List, [], ◌∷◌, ◌++◌, length, refl, sym, ap, subst, ◌∙◌, Some, None, Ok, Err, append_assoc, append-nil, inl, arith}
 use Rattle.std.proofs.lemmas.Bool.{cases_Bool}
 use Rattle.std.proofs.lemmas.List.Splits.{length-slice_split}
 use Rattle.std.specs.List.{slice_split, onto_first}
-use Rattle.std.specs.Prelude.{Option, Result, Bool, true, false, cond, ◌==◌, ◌↔◌}
+use Rattle.std.specs.Prelude.{Option, Result, Bool, ◌==◌, ◌↔◌}
 use Rattle.example_language.specs.Grammar.{Spells, waits, SpellAll, IsWrong, IsFirstError}
 use Rattle.example_language.specs.Meaning.{Expr, Num, Var, Join, token_of, fitting, applied, and_then, only_tree, read, words_of, spaced, reading}
 use Rattle.example_language.specs.declared.parsing.ParseErr.{ParseErr}

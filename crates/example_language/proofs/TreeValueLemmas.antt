@@ -5,7 +5,7 @@ use Rattle.std.specs.Prelude.{slice_get, slice_index, Option, unwrap_or, is_some
 use Rattle.std.specs.Option.{option_and_then}
 use Rattle.std.proofs.lemmas.Bool.{cases_Bool}
 use Rattle.std.proofs.lemmas.List.{places, append_assoc, get_or_push, length_push}
-use Rattle.std.proofs.lemmas.Option.{none-some, same_Some, option_and_then_some, slice_get_read}
+use Rattle.std.proofs.lemmas.Option.{none-some, same_Some, slice_get_read}
 use Rattle.std.proofs.lemmas.Slice.Eq.{bytes_eq-Decides}
 use Rattle.arena.specs.Interner.{number_of, with_text}
 use Rattle.arena.proofs.SymbolLayers.{number_push}

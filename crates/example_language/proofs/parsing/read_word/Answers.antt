@@ -1,11 +1,8 @@
-use Rattle.std.proofs.Common.{ℕ, ◌<◌, ◌∷◌, [], ◌++◌, List, ◌∙◌, sym, ap, Some, inl, inr, Option, rules}
+use Rattle.std.proofs.Common.{ℕ, ◌<◌, ◌∷◌, [], ◌++◌, ◌∙◌, sym, ap, Some, inl, inr, Option, rules}
 use Rattle.std.proofs.lemmas.List.Elements.{All-same}
 use Rattle.arena.proofs.AstLayers.{below_more, list_length, error_kept}
-use Rattle.example_language.specs.Meaning.{Expr, token_of, applied}
-use Rattle.example_language.specs.Parsing.{Fails, RefusesWord}
-use Rattle.example_language.specs.Placing.{ArePlaced}
-use Rattle.example_language.specs.Trees.{node_item, rows_in}
-use Rattle.example_language.specs.declared.parsing.ParseErr.{ParseErr}
+use Rattle.example_language.specs.Meaning.{applied}
+use Rattle.example_language.specs.Trees.{node_item}
 use Rattle.example_language.specs.declared.parsing.Token.{Token}
 use Rattle.example_language.proofs.PlacingLemmas.{applies_now, too_deep, completed, room_left}
 use Rattle.example_language.proofs.TreeLemmas.{moved_then, fails_too}
