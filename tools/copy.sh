@@ -27,4 +27,5 @@ sed 's/[: ].*//' "$1/crates.txt" | while read -r name; do
     (cd "$top/crates" && find "$name" -path '*/out' -prune -o -type f -print | tar -cf - -T -) | tar -xf - -C "$1/crates"
 done
 cp "$top/LICENSE" "$top/NOTICE" "$1"
-if grep -qE '^(arena_pool|arena_workers)[: ]' "$1/crates.txt"; then cp "$top/HANDLES" "$1"; else echo 'Handles allowed: none.' > "$1/HANDLES"; fi
+echo 'Handles allowed: none.' > "$1/HANDLES"
+! grep -q '^arena_pool[: ]' "$1/crates.txt" || cp "$top/HANDLES" "$1"

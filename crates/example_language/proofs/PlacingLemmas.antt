@@ -10,7 +10,7 @@ use Rattle.example_language.proofs.ReadingLemmas.{fits, HasRead, next, ends}
 use Rattle.example_language.specs.Meaning.{Expr, Num, Var, Join, token_of, fitting, applied, only_tree, words_of, reading}
 use Rattle.example_language.specs.Nodes.{sign_node}
 use Rattle.example_language.specs.Parsing.{Completes, ReadsWord}
-use Rattle.example_language.specs.Placing.{and_node, placed, all_placed, tops, ArePlaced}
+use Rattle.example_language.specs.Placing.{and_node, placed as placed_of, all_placed, tops, ArePlaced}
 use Rattle.example_language.specs.declared.nodes.Node.{Node}
 use Rattle.example_language.specs.declared.nodes.Node.TheVariants.{Number, Name}
 use Rattle.example_language.specs.declared.nodes.Sign.{Sign}
@@ -32,17 +32,11 @@ deep at trees more = grind (arith, nat_tests)
 
 module _ {token : Token} {word : List ℕ} {at : ℕ} {rows : Rows (ByParts Node)} {stack : List ℕ} {trees : List Expr} {node : Node}
     (by : Completes token word at rows stack trees node) where
-  applies : Some token ≡ token_of word → applied (token_of word) word at trees ≡ fitting at (by.tree ∷ by.others)
-  applies is = ap (λ (o : Option Token). applied o word at trees) (sym is) ∙ by.applies
-
-  waiting : length by.others ≡ length stack
-  waiting = sym (length-tops by.others) ∙ sym (ap length by.stack_is)
-
   pub applies_now : Some token ≡ token_of word → length stack < 64 → applied (token_of word) word at trees ≡ Ok (by.tree ∷ by.others)
-  applies_now is room = applies is ∙ fits at (by.tree ∷ by.others) (omega (arith, room, waiting))
+  applies_now is room = grind (arith, nat_tests, length-tops, fits)
 
   pub too_deep : Some token ≡ token_of word → 64 ≤ length stack → applied (token_of word) word at trees ≡ Err (TooDeep at)
-  too_deep is full = applies is ∙ deep at (by.tree ∷ by.others) (omega (arith, full, waiting))
+  too_deep is full = grind (arith, nat_tests, length-tops, deep)
 
   -- its index is that of its last node
   pub completed : {more : Rows (ByParts Node)} {items : List ℕ} (index : ℕ) → more ≡ and_node rows node → index ≡ length rows.nodes
@@ -56,26 +50,17 @@ few sign word at trees less = grind (arith, nat_tests)
 module _ (word : List ℕ) (at : ℕ) {stack : List ℕ} {rows : Rows (ByParts Node)} where
   pub numbered : (n : ℕ) {trees : List Expr} → ArePlaced rows stack trees
       → Completes (NumberSign n) word at rows stack trees (Number n)
-  numbered n {trees = trees} placed = record {
-    tree = Num n;
-    others = trees;
-    applies = refl;
-    stack_is = placed.stack_is;
-    rows_are = ap (λ (r : Rows (ByParts Node)). and_node r (Number n)) placed.rows_are;
-  }
+  numbered n {trees = trees} placed =
+      let are = ap (λ (r : Rows (ByParts Node)). and_node r (Number n)) placed.rows_are in
+      record { tree = Num n; others = trees; applies = refl; rows_are = are; stack_is = placed.stack_is }
 
   pub named : (n : ℕ) {trees : List Expr} {after : Rows (ByParts Node)} → ArePlaced rows stack trees → after ≡ with_name rows word
       → number_of after.names word ≡ Some n → Completes NameSign word at after stack trees (Name n)
   named n {trees = trees} {after = after} placed rows_are number =
       let is : after ≡ with_name (all_placed trees) word = rows_are ∙ ap (λ (r : Rows (ByParts Node)). with_name r word) placed.rows_are in
-      record {
-        tree = Var word;
-        others = trees;
-        applies = refl;
-        stack_is = placed.stack_is;
-        rows_are = λ i. and_node (is i) (Name (ap (λ (o : Option ℕ). unwrap_or o 0)
-            (sym number ∙ ap (λ (r : Rows (ByParts Node)). number_of r.names word) is) i));
-      }
+      let same = ap (λ (o : Option ℕ). unwrap_or o 0) (sym number ∙ ap (λ (r : Rows (ByParts Node)). number_of r.names word) is) in
+      let are : and_node after (Name n) ≡ placed_of (Var word) (all_placed trees) = λ i. and_node (is i) (Name (same i)) in
+      record { tree = Var word; others = trees; applies = refl; rows_are = are; stack_is = placed.stack_is }
 
   -- the last two indices are those of two trees
   pub joined : (sign : Sign) (more : List ℕ) (l r : ℕ) (trees : List Expr) → ArePlaced rows stack trees → stack ≡ more ++ l ∷ r ∷ []
@@ -83,26 +68,15 @@ module _ (word : List ℕ) (at : ℕ) {stack : List ℕ} {rows : Rows (ByParts N
   joined sign more l r [] placed is = absurd (omega (arith, ap length (sym is ∙ placed.stack_is), length-append more (l ∷ r ∷ [])))
   joined sign more l r (t ∷ []) placed is = absurd (omega (arith, ap length (sym is ∙ placed.stack_is), length-append more (l ∷ r ∷ [])))
   joined sign more l r (right ∷ left ∷ trees) placed is =
-      let last = same_from_push (more ++ l ∷ []) (tops (left ∷ trees)) r (last_of (all_placed (right ∷ left ∷ trees)))
-      (append_assoc more (l ∷ []) (r ∷ []) ∙ sym is ∙ placed.stack_is) in
-      let before = same_from_push more (tops trees) l (last_of (all_placed (left ∷ trees))) last.0 in
-      record {
-        tree = Join sign left right;
-        others = trees;
-        applies = refl;
-        stack_is = before.0;
-        rows_are = λ i. and_node (placed.rows_are i) (sign_node sign (before.1 i) (last.1 i));
-      }
+      let top = last_of (all_placed (right ∷ left ∷ trees)) in
+      let all = append_assoc more (l ∷ []) (r ∷ []) ∙ sym is ∙ placed.stack_is in
+      let last = same_from_push (more ++ l ∷ []) (tops (left ∷ trees)) r top all in
+      let first = same_from_push more (tops trees) l (last_of (all_placed (left ∷ trees))) last.0 in
+      let are : and_node rows (sign_node sign l r) ≡ placed_of (Join sign left right) (all_placed trees)
+      = λ i. and_node (placed.rows_are i) (sign_node sign (first.1 i) (last.1 i)) in
+      record { tree = Join sign left right; others = trees; applies = refl; rows_are = are; stack_is = first.0 }
 
 -- ---- The loop
-
-module _ (text : List ℕ) {rows : Rows (ByParts Node)} {stack : List ℕ} (trees : List Expr) (holds : ArePlaced rows stack trees) where
-  of_one : length stack ≡ 1 → only_tree (length text) trees ≡ reading text
-      → (expr : Expr) × (reading text ≡ Ok expr) × (rows ≡ placed expr no_rows)
-  of_one one ended = grind (arith, nat_tests, length-tops)
-
-  of_others : (length stack ≡ 1 → ⊥) → only_tree (length text) trees ≡ reading text → reading text ≡ Err (Operands (length text))
-  of_others not ended = grind (arith, nat_tests)
 
 -- The first n words were read, and their trees are placed.
 pub record IsReadTo (text : List ℕ) (at : ℕ) (rows : Rows (ByParts Node)) (stack : List ℕ) (n : ℕ) : Type 0 where
@@ -121,21 +95,20 @@ module _ {text : List ℕ} {at : ℕ} {rows : Rows (ByParts Node)} {stack : List
 
     pub word_read : {now : Rows (ByParts Node)} {items : List ℕ} (k : ℕ) → k ≡ n + 1 → ReadsWord word at before.trees now items
         → IsReadTo text (at + (length word + 1)) now items k
-    word_read k is reads = record {
-      trees = reads.more;
-      holds = reads.placed;
-      has = subst (λ (k : ℕ). HasRead text (at + (length word + 1)) reads.more (take k words) (drop k words)) (sym is)
-          (subst (λ (seen : List (List ℕ)). HasRead text (at + (length word + 1)) reads.more seen (drop (n + 1) words))
-          (ap (λ (w : List ℕ). take n words ++ w ∷ []) turn.1 ∙ sym (take_more words n word turn.0)) (next word_comes reads.applies));
-    }
+    word_read k is reads =
+        let seen = ap (λ (w : List ℕ). take n words ++ w ∷ []) turn.1 ∙ sym (take_more words n word turn.0) in
+        let one = subst (λ (ws : List (List ℕ)). HasRead text (at + (length word + 1)) reads.more ws (drop (n + 1) words)) seen
+        (next word_comes reads.applies) in
+        let has = subst (λ (k : ℕ). HasRead text (at + (length word + 1)) reads.more (take k words) (drop k words)) (sym is) one in
+        record { trees = reads.more; holds = reads.placed; has = has }
 
   pub all_comes : length words ≤ n → only_tree (length text) before.trees ≡ reading text
   all_comes all = ends (subst (HasRead text at before.trees (take n words)) (drop_all n words all) before.has)
 
   -- one index is left
-  pub one_left : length words ≤ n → length stack ≡ 1 → (expr : Expr) × (reading text ≡ Ok expr) × (rows ≡ placed expr no_rows)
-  one_left all one = of_one text before.trees before.holds one (all_comes all)
+  pub one_left : length words ≤ n → length stack ≡ 1 → (expr : Expr) × (reading text ≡ Ok expr) × (rows ≡ placed_of expr no_rows)
+  one_left all one = let ended = all_comes all in grind (arith, nat_tests, length-tops)
 
   -- none or several are
   pub not_one : length words ≤ n → (length stack ≡ 1 → ⊥) → reading text ≡ Err (Operands (length text))
-  not_one all not = of_others text before.trees before.holds not (all_comes all)
+  not_one all not = let ended = all_comes all in grind (arith, nat_tests)

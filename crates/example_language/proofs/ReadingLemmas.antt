@@ -1,9 +1,10 @@
 -- Words that are read one after another, and what they spell by the grammar.
 use Rattle.std.proofs.lemmas.Bool.Decides.{nat_tests}
-use Rattle.std.proofs.Common.{◌≡◌, ℕ, ◌+◌, ◌-◌, ◌≤◌, ◌<◌, List, [], ◌∷◌, ◌++◌, length, refl, sym, ap, subst, ◌∙◌, Some, None, Ok, Err, append_assoc, append-nil, inl, arith}
+use Rattle.std.proofs.Common.{◌≡◌, ℕ, ◌+◌, ◌≤◌, ◌<◌, List, [], ◌∷◌, ◌++◌, length, refl, sym, ap, subst, ◌∙◌, Some, None, Ok, Err, append_assoc, append-nil, inl, arith}
+use Rattle.std.proofs.lemmas.Bool.{cases_Bool}
 use Rattle.std.proofs.lemmas.List.Splits.{length-slice_split}
 use Rattle.std.specs.List.{slice_split, onto_first}
-use Rattle.std.specs.Prelude.{Option, Result, Bool, true, false, cond, ◌==◌, ◌↔◌}
+use Rattle.std.specs.Prelude.{Option, Result, Bool, ◌==◌, ◌↔◌}
 use Rattle.example_language.specs.Grammar.{Spells, waits, SpellAll, IsWrong, IsFirstError}
 use Rattle.example_language.specs.Meaning.{Expr, Num, Var, Join, token_of, fitting, applied, and_then, only_tree, read, words_of, spaced, reading}
 use Rattle.example_language.specs.declared.parsing.ParseErr.{ParseErr}
@@ -20,10 +21,7 @@ onto b words some = grind (arith, nat_tests)
 
 spaced-split : (p : ℕ → Bool) (text : List ℕ) → spaced (slice_split p text) ≡ length text + 1
 spaced-split p [] = refl
-spaced-split p (b ∷ bs) = elim (p b) as (λ t. spaced (cond t ([] ∷ slice_split p bs) (onto_first b (slice_split p bs))) ≡ length (b ∷ bs) + 1) [
-  | true ↦ omega (arith, spaced-split p bs)
-  | false ↦ omega (arith, spaced-split p bs, onto b (slice_split p bs) (some_words p bs))
-]
+spaced-split p (b ∷ bs) = grind (arith, nat_tests, cases_Bool, spaced-split p bs, onto, some_words p bs)
 
 pub spaced-append : (words more : List (List ℕ)) → spaced (words ++ more) ≡ spaced words + spaced more
 spaced-append [] more = omega arith
@@ -49,43 +47,18 @@ spelled : (o : Option Token) (word : List ℕ) (at : ℕ) (trees more : List Exp
 spelled None word at trees more seen is to all = cc
 spelled (Some (Number n)) word at trees more seen is to all =
     let now = fitted at (Num n ∷ trees) more to in
-    subst (λ (ts : List Expr). SpellAll ts (seen ++ word ∷ [])) now.0 (record {
-      before = seen;
-      own = word ∷ [];
-      words_are = refl;
-      others = all;
-      spells = (word, refl, is);
-      fits = omega (arith, now.1);
-    })
+    subst (λ (ts : List Expr). SpellAll ts (seen ++ word ∷ [])) now.0
+    (seen, word ∷ [], refl, all, (word, refl, is), omega (arith, now.1))
 spelled (Some Name) word at trees more seen is to all =
     let now = fitted at (Var word ∷ trees) more to in
-    subst (λ (ts : List Expr). SpellAll ts (seen ++ word ∷ [])) now.0 (record {
-      before = seen;
-      own = word ∷ [];
-      words_are = refl;
-      others = all;
-      spells = (refl, is);
-      fits = omega (arith, now.1);
-    })
+    subst (λ (ts : List Expr). SpellAll ts (seen ++ word ∷ [])) now.0 (seen, word ∷ [], refl, all, (refl, is), omega (arith, now.1))
 spelled (Some (JoinSign sign)) word at (r ∷ l ∷ trees) more seen is to all =
-    let left = all.others in
-    subst (λ (ts : List Expr). SpellAll ts (seen ++ word ∷ [])) (fitted at (Join sign l r ∷ trees) more to).0 (record {
-      before = left.before;
-      own = left.own ++ all.own ++ word ∷ [];
-      words_are = ap (λ (ws : List (List ℕ)). ws ++ word ∷ []) (all.words_are ∙ ap (λ (ws : List (List ℕ)). ws ++ all.own) left.words_are)
-          ∙ simp append_assoc;
-      others = left.others;
-      spells = record {
-        left = left.own;
-        right = all.own;
-        word = word;
-        words_are = refl;
-        left_spells = left.spells;
-        right_spells = all.spells;
-        is_sign = is;
-      };
-      fits = omega (arith, left.fits, all.fits);
-    })
+    let left = all.3 in
+    let words_are : seen ++ word ∷ [] ≡ left.0 ++ (left.1 ++ all.1 ++ word ∷ []) = ap (λ (ws : List (List ℕ)). ws ++ word ∷ [])
+    (all.2 ∙ ap (λ (ws : List (List ℕ)). ws ++ all.1) left.2) ∙ simp append_assoc in
+    let own : Spells (Join sign l r) (left.1 ++ all.1 ++ word ∷ []) = (left.1, all.1, word, refl, left.4, all.4, is) in
+    subst (λ (ts : List Expr). SpellAll ts (seen ++ word ∷ [])) (fitted at (Join sign l r ∷ trees) more to).0
+    (left.0, left.1 ++ all.1 ++ word ∷ [], words_are, left.3, own, omega (arith, left.5, all.5))
 spelled (Some (JoinSign sign)) word at trees more seen is to all = cc
 
 -- ---- Words
@@ -107,13 +80,7 @@ module _ {text : List ℕ} {at : ℕ} {trees : List Expr} {seen : List (List ℕ
     others more = read (at + (length word + 1)) more words
 
     pub room : at + (length word + 1) ≤ length text + 1
-    room = omega (
-      arith,
-      before.place,
-      ap spaced before.words_are,
-      spaced-append seen (word ∷ words),
-      spaced-split (λ b. b == 32) text,
-    )
+    room = omega (arith, before.place, ap spaced before.words_are, spaced-append seen (word ∷ words), spaced-split (λ b. b == 32) text)
 
     pub next : {more : List Expr} → applied (token_of word) word at trees ≡ Ok more
         → HasRead text (at + (length word + 1)) more (seen ++ word ∷ []) words
@@ -129,20 +96,13 @@ module _ {text : List ℕ} {at : ℕ} {trees : List Expr} {seen : List (List ℕ
     stops to = sym before.rest ∙ ap (and_then others) to
 
     fails : {e : ParseErr} → applied (token_of word) word at trees ≡ Err e → IsFirstError text e
-    fails {e = e} to = inl (record {
-      before = seen;
-      word = word;
-      after = words;
-      words_are = before.words_are;
-      trees = trees;
-      spelled = before.spells;
-      wrong = subst (λ (n : ℕ). IsWrong e n trees word) before.place (wrong (token_of word) word at trees e refl to before.few);
-    })
+    fails {e = e} to =
+        let bad = subst (λ (n : ℕ). IsWrong e n trees word) before.place (wrong (token_of word) word at trees e refl to before.few) in
+        let are = before.words_are in
+        inl (record { before = seen; word = word; after = words; words_are = are; trees = trees; spelled = before.spells; wrong = bad })
 
   pub ends : HasRead text at trees seen [] → only_tree (length text) trees ≡ reading text
-  ends before =
-      ap (λ (n : ℕ). only_tree n trees) (let end : length text ≡ at - 1
-      = omega (arith, before.place, ap spaced (before.words_are ∙ append-nil seen), spaced-split (λ b. b == 32) text) in end) ∙ before.rest
+  ends before = grind (arith, nat_tests, append-nil, spaced-split (λ b. b == 32) text)
 
 -- what a reading says of its text
 abbrev Reads : List ℕ → Result Expr ParseErr → Type 0
@@ -165,35 +125,34 @@ words_read text (word ∷ words) at trees seen before =
 
 -- ---- What is spelled is read
 
-word_reads : (o : Option Token) (word : List ℕ) (at : ℕ) (trees more : List Expr) (others : List (List ℕ)) → token_of word ≡ o
-    → applied o word at trees ≡ fitting at more → length more ≤ 64
-    → read at trees (word ∷ others) ≡ read (at + (length word + 1)) more others
-word_reads o word at trees more others is to few =
-    ap (and_then (λ (ts : List Expr). read (at + (length word + 1)) ts others))
-    (ap (λ (o : Option Token). applied o word at trees) is ∙ to ∙ fits at more few)
+-- the only word of these
+word_reads : (o : Option Token) (word : List ℕ) (words : List (List ℕ)) (at : ℕ) (trees more : List Expr) (others : List (List ℕ))
+    → words ≡ word ∷ [] → token_of word ≡ o → applied o word at trees ≡ fitting at more → length more ≤ 64
+    → (end : ℕ) × (read at trees (words ++ others) ≡ read end more others)
+word_reads o word words at trees more others one is to few = (
+  at + (length word + 1),
+  ap (λ (ws : List (List ℕ)). read at trees (ws ++ others)) one
+      ∙ ap (and_then (λ (ts : List Expr). read (at + (length word + 1)) ts others))
+      (ap (λ (o : Option Token). applied o word at trees) is ∙ to ∙ fits at more few),
+)
 
 -- the words of this tree are read as it, in front of others
 tree_reads : (tree : Expr) (words : List (List ℕ)) → Spells tree words → (at : ℕ) (trees : List Expr) (others : List (List ℕ))
     → waits tree + length trees ≤ 64 → (end : ℕ) × (read at trees (words ++ others) ≡ read end (tree ∷ trees) others)
-tree_reads (Num n) words spells at trees others room = (
-  at + (length spells.0 + 1),
-  ap (λ (ws : List (List ℕ)). read at trees (ws ++ others)) spells.1
-      ∙ word_reads (Some (Number n)) spells.0 at trees (Num n ∷ trees) others spells.2 refl (omega (arith, room)),
-)
-tree_reads (Var name) words spells at trees others room = (
-  at + (length name + 1),
-  ap (λ (ws : List (List ℕ)). read at trees (ws ++ others)) spells.0
-      ∙ word_reads (Some Name) name at trees (Var name ∷ trees) others spells.1 refl (omega (arith, room)),
-)
+tree_reads (Num n) words spells at trees others room =
+    word_reads (Some (Number n)) spells.0 words at trees (Num n ∷ trees) others spells.1 spells.2 refl (omega (arith, room))
+tree_reads (Var name) words spells at trees others room =
+    word_reads (Some Name) name words at trees (Var name ∷ trees) others spells.0 spells.1 refl (omega (arith, room))
 tree_reads (Join sign l r) words spells at trees others room =
-    let left = tree_reads l spells.left spells.left_spells at trees (spells.right ++ spells.word ∷ others) (omega (arith, room)) in
-    let right = tree_reads r spells.right spells.right_spells left.0 (l ∷ trees) (spells.word ∷ others) (omega (arith, room)) in (
-      right.0 + (length spells.word + 1),
-      ap (λ (ws : List (List ℕ)). read at trees (ws ++ others)) spells.words_are
-          ∙ ap (read at trees) (append_assoc (spells.left ++ spells.right) (spells.word ∷ []) others
-          ∙ append_assoc spells.left spells.right (spells.word ∷ others)) ∙ left.1 ∙ right.1
-          ∙ word_reads (Some (JoinSign sign)) spells.word right.0 (r ∷ l ∷ trees) (Join sign l r ∷ trees) others spells.is_sign refl
-          (omega (arith, room)),
+    let behind = spells.2 ∷ others in
+    let left = tree_reads l spells.0 spells.4 at trees (spells.1 ++ behind) (omega (arith, room)) in
+    let right = tree_reads r spells.1 spells.5 left.0 (l ∷ trees) behind (omega (arith, room)) in
+    let more : length (Join sign l r ∷ trees) ≤ 64 = omega (arith, room) in
+    let last = word_reads (Some (JoinSign sign)) spells.2 (spells.2 ∷ []) right.0 (r ∷ l ∷ trees) (Join sign l r ∷ trees) others refl spells.6
+    refl more in (
+      last.0,
+      ap (λ (ws : List (List ℕ)). read at trees (ws ++ others)) spells.3 ∙ ap (read at trees)
+          (append_assoc (spells.0 ++ spells.1) (spells.2 ∷ []) others ∙ append_assoc spells.0 spells.1 behind) ∙ left.1 ∙ right.1 ∙ last.1,
     )
 
 pub tree_spelled : (text : List ℕ) (tree : Expr) → (reading text ≡ Ok tree) ↔ (Spells tree (words_of text) × (waits tree ≤ 64))

@@ -5,7 +5,7 @@ use Rattle.std.specs.Prelude.{slice_get, slice_index, Option, unwrap_or, is_some
 use Rattle.std.specs.Option.{option_and_then}
 use Rattle.std.proofs.lemmas.Bool.{cases_Bool}
 use Rattle.std.proofs.lemmas.List.{places, append_assoc, get_or_push, length_push}
-use Rattle.std.proofs.lemmas.Option.{none-some, same_Some, option_and_then_some, slice_get_read}
+use Rattle.std.proofs.lemmas.Option.{none-some, same_Some, slice_get_read}
 use Rattle.std.proofs.lemmas.Slice.Eq.{bytes_eq-Decides}
 use Rattle.arena.specs.Interner.{number_of, with_text}
 use Rattle.arena.proofs.SymbolLayers.{number_push}
@@ -59,6 +59,9 @@ two_items : (xs ys : List ℕ) (a b m n : ℕ) → m ≡ length (xs ++ a ∷ [])
     → (slice_index ((xs ++ a ∷ []) ++ (ys ++ b ∷ [])) m ≡ a) × (slice_index ((xs ++ a ∷ []) ++ (ys ++ b ∷ [])) n ≡ b)
 two_items xs ys a b m n left right = grind (arith, places, length_push, append_assoc)
 
+at_end : (xs : List ℕ) (v : ℕ) → last_value (xs ++ v ∷ []) ≡ Some v
+at_end xs v = grind (arith, nat_tests, slice_get_read (xs ++ v ∷ []) (length xs + 1) (length xs) v, get_or_push, length_push)
+
 module _ (values : List ℕ) where
   -- one node more
   abbrev with_value : Node → List ℕ → Option (List ℕ)
@@ -67,20 +70,13 @@ module _ (values : List ℕ) where
   one_more : (nodes : List (ByParts Node)) (node : ByParts Node) (before : List ℕ)
       → values_after values before (nodes ++ node ∷ []) ≡ option_and_then (with_value node.0) (values_after values before nodes)
   one_more [] node before = refl
-  one_more (first ∷ nodes) node before =
-      elim (node_value values before first.0) as (λ o. option_and_then (λ (v : ℕ). values_after values (before ++ v ∷ []) (nodes ++ node ∷ [])) o
-      ≡ option_and_then (with_value node.0) (option_and_then (λ (v : ℕ). values_after values (before ++ v ∷ []) nodes) o)) [
-        | None ↦ refl
-        | Some v ↦ one_more nodes node (before ++ v ∷ [])
-      ]
+  one_more (first ∷ nodes) node before = grind (arith, nat_tests, one_more nodes node)
 
   -- each node has one value
   count : (nodes : List (ByParts Node)) (after before : List ℕ) → values_after values before nodes ≡ Some after
       → length after ≡ length before + length nodes
   count [] after before is = omega (arith, ap length (same_Some before after is))
-  count (node ∷ nodes) after before is =
-      option_and_then_some (λ (v : ℕ). values_after values (before ++ v ∷ []) nodes) (node_value values before node.0) after is
-      (λ v own rest. omega (arith, count nodes after (before ++ v ∷ []) rest, length-append before (v ∷ [])))
+  count (node ∷ nodes) after before is = grind (arith, nat_tests, none-some, count nodes after, length-append {A = ℕ})
 
   -- The values are those before, some others, and this one; or a name has none.
   abbrev Gives : Option (List ℕ) → Option ℕ → Option (List ℕ) → Type 0
@@ -144,11 +140,7 @@ module _ (values : List ℕ) where
 
   last_gives : (value : Option ℕ) (after : Option (List ℕ)) → Gives (Some []) value after → option_and_then last_value after ≡ value
   last_gives None after none = ap (option_and_then last_value) none
-  last_gives (Some v) after gives =
-      let more = length_push gives.0 v in
-      ap (option_and_then last_value) gives.1
-      ∙ slice_get_read (gives.0 ++ v ∷ []) _ (length (gives.0 ++ v ∷ []) - 1) v refl (omega (arith, more))
-      (sym (get_or_push gives.0 v v (length (gives.0 ++ v ∷ []) - 1) (omega (arith, more))))
+  last_gives (Some v) after gives = ap (option_and_then last_value) gives.1 ∙ at_end gives.0 v
 
 pub value_placed : (values : List ℕ) (tree : Expr)
     → value_of values (placed tree no_rows).nodes ≡ tree_value values (placed tree no_rows).names tree

@@ -6,21 +6,12 @@ use Rattle.example_language.specs.declared.parsing.ParseErr.{ParseErr}
 use Rattle.example_language.specs.declared.parsing.ParseErr.TheVariants.{Token as BadToken, Operands, TooDeep, Refused}
 use Rattle.example_language.specs.declared.parsing.Token.TheVariants.{Number, Name, Join as JoinSign}
 
--- two trees, and a sign behind
-pub record Joins (Left Right : List (List ℕ) → Type 0) (sign : Sign) (words : List (List ℕ)) : Type 0 where
-  pub left : List (List ℕ)
-  pub right : List (List ℕ)
-  pub word : List ℕ
-  pub words_are : words ≡ left ++ right ++ word ∷ []
-  pub left_spells : Left left
-  pub right_spells : Right right
-  pub is_sign : token_of word ≡ Some (JoinSign sign)
-
 -- The words spell the tree, with the operands first.
 abbrev pub Spells : Expr → List (List ℕ) → Type 0
 Spells (Num n) words = (word : List ℕ) × (words ≡ word ∷ []) × (token_of word ≡ Some (Number n))
 Spells (Var name) words = (words ≡ name ∷ []) × (token_of name ≡ Some Name)
-Spells (Join sign l r) words = Joins (Spells l) (Spells r) sign words
+Spells (Join sign l r) words = (left : List (List ℕ)) × (right : List (List ℕ)) × (word : List ℕ)
+    × (words ≡ left ++ right ++ word ∷ []) × Spells l left × Spells r right × (token_of word ≡ Some (JoinSign sign))
 
 -- How many trees wait at once for their sign, at most, while the words of this one are read: the left operand waits for
 -- the right one.
@@ -31,19 +22,11 @@ waits (Join sign l r) = max (waits l) (1 + waits r)
 
 -- ---- Texts without a tree
 
--- one tree behind others, of which at most 64 wait at once
-pub record SpellsLast (Others Own : List (List ℕ) → Type 0) (waiting : ℕ) (words : List (List ℕ)) : Type 0 where
-  pub before : List (List ℕ)
-  pub own : List (List ℕ)
-  pub words_are : words ≡ before ++ own
-  pub others : Others before
-  pub spells : Own own
-  pub fits : waiting ≤ 64
-
--- The words spell these trees, one after another, of which the last comes first.
+-- The words spell these trees, one after another, of which the last comes first. At most 64 wait at once.
 abbrev pub SpellAll : List Expr → List (List ℕ) → Type 0
 SpellAll [] words = words ≡ []
-SpellAll (tree ∷ trees) words = SpellsLast (SpellAll trees) (Spells tree) (waits tree + length trees) words
+SpellAll (tree ∷ trees) words = (before : List (List ℕ)) × (own : List (List ℕ)) × (words ≡ before ++ own)
+    × SpellAll trees before × Spells tree own × (waits tree + length trees ≤ 64)
 
 abbrev pub IsSign : List ℕ → Type 0
 IsSign word = (sign : Sign) × (token_of word ≡ Some (JoinSign sign))

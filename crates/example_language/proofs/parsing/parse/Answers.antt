@@ -12,45 +12,37 @@ use Rattle.example_language.proofs.TreeLemmas.{fails_too, built_then}
 use Rattle.example_language.proofs.parsing.parse.Goals as goal
 
 pub words-init : goal.words-init
-words-init g c = record {
-  built = record { fresh = c.new_in-tree.ensures.fresh c.args.a.now.memory; counts = same_count c.args.a.now.source };
-  stack = All-same (λ (i : ℕ). i < c.new_in-tree.result.nodes.raw.len) _ [] c.new-stack.ensures (All-nil _);
-  reads = record {
-    trees = [];
-    has = none_read c.args.src.now;
-    holds = record { rows_are = c.new_in-tree.ensures.rows c.args.a.now.memory; stack_is = c.new-stack.ensures };
-  };
-}
+words-init g c =
+    let split = c.split-word-items.ensures in
+    record {
+      built = record { fresh = c.new_in-tree.ensures.fresh c.args.a.now.memory; counts = same_count c.args.a.now.source };
+      stack = All-same (λ (i : ℕ). i < c.new_in-tree.result.nodes.raw.len) _ [] c.new-stack.ensures (All-nil _);
+      road = YieldsList-at c.into_iter-word-iterator.ensures.into_iter_gives
+          (YieldsList-from_str_split 32 c.args.src.now (lit< tt) split.text split.has_more split.pattern);
+      reads = record { trees = []; holds = record { rows_are = c.new_in-tree.ensures.rows c.args.a.now.memory; stack_is = c.new-stack.ensures }; has = none_read c.args.src.now };
+    }
 
 pub overflow_add-at-in-words : goal.overflow_add-at-in-words
 overflow_add-at-in-words g c =
-    let split = c.split-word-items.ensures in
-    let turn = YieldsList-turn (YieldsList-at c.into_iter-word-iterator.ensures.into_iter_gives
-    (YieldsList-from_str_split 32 c.args.src.now (lit< tt) split.text split.has_more split.pattern)) c.words.yielded _ c.words.yielded_by _ _
-    c.in-Some.word c.in-Some.is c.next.ensures.steps in
+    let turn = YieldsList-turn c.words.invariant.road c.words.yielded _ c.words.yielded_by _ _ c.in-Some.word c.in-Some.is c.next.ensures.steps in
     omega (arith, room (word_comes (length c.words.yielded) c.words.invariant.reads c.in-Some.word.now turn))
 
 pub words-preserved : goal.words-preserved
 words-preserved g c =
-    let split = c.split-word-items.ensures in
-    let turn = YieldsList-turn (YieldsList-at c.into_iter-word-iterator.ensures.into_iter_gives
-    (YieldsList-from_str_split 32 c.args.src.now (lit< tt) split.text split.has_more split.pattern)) c.words.yielded _ c.words.yielded_by _ _
-    c.in-Some.word c.in-Some.is c.next.ensures.steps in
+    let turn = YieldsList-turn c.words.invariant.road c.words.yielded _ c.words.yielded_by _ _ c.in-Some.word c.in-Some.is c.next.ensures.steps in
     let before = c.words.invariant.reads in
     let read = c.in_ok-read_word.ensures in
     record {
       built = built_then c.words.invariant.built read.moved;
       stack = read.stack;
+      road = c.words.invariant.road;
       reads = word_read (length c.words.yielded) before c.in-Some.word.now turn _ (length_push c.words.yielded c.in-Some.word)
           (read.reads before.trees before.holds);
     }
 
 pub returns-in_err-read_word-clause-wrong : goal.returns-in_err-read_word-clause-wrong
 returns-in_err-read_word-clause-wrong g c =
-    let split = c.split-word-items.ensures in
-    let turn = YieldsList-turn (YieldsList-at c.into_iter-word-iterator.ensures.into_iter_gives
-    (YieldsList-from_str_split 32 c.args.src.now (lit< tt) split.text split.has_more split.pattern)) c.words.yielded _ c.words.yielded_by _ _
-    c.in-Some.word c.in-Some.is c.next.ensures.steps in
+    let turn = YieldsList-turn c.words.invariant.road c.words.yielded _ c.words.yielded_by _ _ c.in-Some.word c.in-Some.is c.next.ensures.steps in
     let before = c.words.invariant.reads in
     let has = word_comes (length c.words.yielded) before c.in-Some.word.now turn in
     error_kept (Fails (reading c.args.src.now) (StopsAt c.args.src.now c.args.a.now c.read_word.new.a)) _ c.from_residual.result
@@ -71,18 +63,12 @@ returns-in_err-read_word-clause-wrong g c =
 
 pub returns-then-len-ne1-clause-wrong : goal.returns-then-len-ne1-clause-wrong
 returns-then-len-ne1-clause-wrong g c =
-    let split = c.split-word-items.ensures in
-    let end = YieldsList-end (YieldsList-at c.into_iter-word-iterator.ensures.into_iter_gives
-    (YieldsList-from_str_split 32 c.args.src.now (lit< tt) split.text split.has_more split.pattern)) c.words.yielded _ c.words.yielded_by _ _
-    c.in-None.is c.next.ensures.steps in
+    let end = YieldsList-end c.words.invariant.road c.words.yielded _ c.words.yielded_by _ _ c.in-None.is c.next.ensures.steps in
     not_one (length c.words.yielded) c.words.invariant.reads (omega (arith, end.1))
     (λ one. let several = c.if-len-ne1.true in omega (arith, several, one, c.len.ensures))
 
 pub returns-clause-reading : goal.returns-clause-reading
 returns-clause-reading g c =
-    let split = c.split-word-items.ensures in
-    let end = YieldsList-end (YieldsList-at c.into_iter-word-iterator.ensures.into_iter_gives
-    (YieldsList-from_str_split 32 c.args.src.now (lit< tt) split.text split.has_more split.pattern)) c.words.yielded _ c.words.yielded_by _ _
-    c.in-None.is c.next.ensures.steps in
+    let end = YieldsList-end c.words.invariant.road c.words.yielded _ c.words.yielded_by _ _ c.in-None.is c.next.ensures.steps in
     one_left (length c.words.yielded) c.words.invariant.reads (omega (arith, end.1))
     (let one = c.if-len-ne1.false in omega (arith, one, c.len.ensures))

@@ -1,11 +1,8 @@
-use Rattle.std.proofs.Common.{ℕ, ◌<◌, ◌∷◌, [], ◌++◌, List, ◌∙◌, sym, ap, Some, inl, inr, Option, rules}
+use Rattle.std.proofs.Common.{ℕ, ◌<◌, ◌∷◌, [], ◌++◌, ◌∙◌, sym, ap, Some, inl, inr, Option, rules}
 use Rattle.std.proofs.lemmas.List.Elements.{All-same}
 use Rattle.arena.proofs.AstLayers.{below_more, list_length, error_kept}
-use Rattle.example_language.specs.Meaning.{Expr, token_of, applied}
-use Rattle.example_language.specs.Parsing.{Fails, RefusesWord}
-use Rattle.example_language.specs.Placing.{ArePlaced}
-use Rattle.example_language.specs.Trees.{node_item, rows_in}
-use Rattle.example_language.specs.declared.parsing.ParseErr.{ParseErr}
+use Rattle.example_language.specs.Meaning.{applied}
+use Rattle.example_language.specs.Trees.{node_item}
 use Rattle.example_language.specs.declared.parsing.Token.{Token}
 use Rattle.example_language.proofs.PlacingLemmas.{applies_now, too_deep, completed, room_left}
 use Rattle.example_language.proofs.TreeLemmas.{moved_then, fails_too}
@@ -17,9 +14,7 @@ returns-in_default-clause-fails g c trees placed =
 
 pub returns-in_err-node-clause-fails : goal.returns-in_err-node-clause-fails
 returns-in_err-node-clause-fails g c =
-    error_kept (λ (e : ParseErr). (trees : List Expr) → ArePlaced (rows_in c.args.a.now.memory c.args.tree.now) c.args.stack.now.items trees
-    → Fails (applied (token_of c.args.word.now) c.args.word.now c.args.at trees)
-    (RefusesWord c.args.word.now c.args.at trees c.args.a.now c.node_of.new.a c.args.tree.now) e) _ c.from_residual.result c.from_residual.ensures
+    error_kept _ _ c.from_residual.result c.from_residual.ensures
     (λ trees placed. fails_too _
     (λ f is. ap (λ (o : Option Token). applied o c.args.word.now c.args.at trees) (sym c.in-Some.ensures) ∙ is)
     (λ error refused. inl (sym c.in-Some.ensures ∙ ap (λ (t : Token). Some t) refused.0, refused.1))
@@ -36,10 +31,7 @@ returns-in_err-index-clause-moved g c =
 pub returns-in_err-index-clause-fails : goal.returns-in_err-index-clause-fails
 returns-in_err-index-clause-fails g c =
     let room = room_left _ c.if-is_full.ensures.value c.if-is_full.ensures.fits in
-    error_kept (λ (e : ParseErr). (trees : List Expr) → ArePlaced (rows_in c.args.a.now.memory c.args.tree.now) c.args.stack.now.items trees
-    → Fails (applied (token_of c.args.word.now) c.args.word.now c.args.at trees)
-    (RefusesWord c.args.word.now c.args.at trees c.args.a.now c.add.new.a c.args.tree.now) e) _ c.from_residual-in_err-index.result
-    c.from_residual-in_err-index.ensures (λ trees placed.
+    error_kept _ _ c.from_residual-in_err-index.result c.from_residual-in_err-index.ensures (λ trees placed.
     let by = c.in_ok-node.ensures.completes trees placed in
     inr (record {
       more = by.tree ∷ by.others;
