@@ -2,7 +2,7 @@
 # check.sh: checks the built libraries and all over them. With the kit it builds the libraries again, and compares them byte for
 # byte with those in bindings/lib; `check.sh --built` takes those as they are, and ARENA_LIBS names a folder with others. Then:
 # declarations in Rattle, C and Rust; the examples of the repository through C and Rust, byte for byte; random calls; tests. It
-# needs no network, and skips what needs a command or a library that isn't there.
+# needs no network, and skips what needs a command that isn't there.
 set -euo pipefail
 here=$(dirname "$(readlink -f "$0")")
 root=$(dirname "$here")
