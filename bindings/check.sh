@@ -2,7 +2,7 @@
 # check.sh: checks the built libraries and all over them. With the kit it builds the libraries again, and compares them byte for
 # byte with those in bindings/lib; `check.sh --built` takes those as they are, and ARENA_LIBS names a folder with others. Then:
 # declarations in Rattle, C and Rust; the examples of the repository through C and Rust, byte for byte; random calls; tests. It
-# needs no network, and skips what needs a command or a library that isn't there.
+# needs no network, and skips what needs a command that isn't there.
 set -euo pipefail
 here=$(dirname "$(readlink -f "$0")")
 root=$(dirname "$here")
@@ -15,11 +15,6 @@ trap 'rm -rf "$made"' EXIT
 # has COMMAND PART: whether the command is there. If not, prints that the part is skipped.
 has() {
     command -v "$1" >/dev/null || { echo "skip $2: there is no $1"; return 1; }
-}
-
-# has_oracle PART
-has_oracle() {
-    [ -e "$libs/libarena_oracle.a" ] || { echo "skip $1: there is no $libs/libarena_oracle.a"; return 1; }
 }
 
 if [ "${1-}" != --built ] && [ -z "${ARENA_LIBS-}" ] && has rt 'libraries built again'; then
@@ -89,13 +84,11 @@ if has cc 'C' && has c++ 'C' && has make 'C'; then
     report 'C: random calls on the growing arena'
     "$made/growing_cpp" >/dev/null && true
     report 'C++'
-    if has_oracle 'runs of calls in C'; then
-        through "$made/oracle" C
-        [ "$("$made/oracle" calls --budget 16320 --refuse 1 <<<'alloc 7 5 1 46')" = 'allocerr refused 1' ] && true
-        report 'C: a listed request is refused'
-        [ "$("$made/short")" = "$short" ] && true
-        report 'C: short'
-    fi
+    through "$made/oracle" C
+    [ "$("$made/oracle" calls --budget 16320 --refuse 1 <<<'alloc 7 5 1 46')" = 'allocerr refused 1' ] && true
+    report 'C: a listed request is refused'
+    [ "$("$made/short")" = "$short" ] && true
+    report 'C: short'
 fi
 
 if has cargo 'Rust'; then
@@ -106,22 +99,19 @@ if has cargo 'Rust'; then
         cargo test -q "${@:2}" >"$made/tests" 2>&1 || { cat "$made/tests"; false; } && true
         report "Rust: $1"
     }
-    oracle=
-    has_oracle 'runs of calls in Rust' && oracle=oracle
-    tests 'tests' --no-default-features --features "$oracle"
-    tests 'tests with the feature fast' --no-default-features --features fast
-    RUSTC_BOOTSTRAP=1 tests "std's collections" --no-default-features --features nightly --test std_collections
-    if [ -n "$oracle" ]; then
-        [ "$(cargo run -q --release --example short)" = "$short" ] && true
-        report 'Rust: short'
-        cargo build -q --release && through "$CARGO_TARGET_DIR/release/oracle" Rust
-    fi
+    tests 'tests'
+    tests 'tests with the feature fast' --features fast
+    tests 'tests without the oracle' --no-default-features
+    RUSTC_BOOTSTRAP=1 tests "std's collections" --features nightly --test std_collections
+    [ "$(cargo run -q --release --example short)" = "$short" ] && true
+    report 'Rust: short'
+    cargo build -q --release && through "$CARGO_TARGET_DIR/release/oracle" Rust
     if has cargo-fmt 'layout of Rust'; then
         cargo fmt --check && true
         report 'Rust: layout'
     fi
     if has cargo-clippy 'clippy'; then
-        cargo clippy -q --all-targets --no-default-features --features "$oracle" -- -D warnings && true
+        cargo clippy -q --all-targets -- -D warnings && true
         report 'Rust: clippy'
     fi
 fi

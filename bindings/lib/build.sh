@@ -32,7 +32,7 @@ made() {
         --antt-project "$kit/rattle/logic/antt-project.json" --logic-built "$kit/logic_built" --jobs "${JOBS:-1}" \
         --incremental "$kept/$1" --toolchain "$tools" --backend llvm --crate-type staticlib --target "$2" \
         -o "$3/$2/lib$1.a" 2>&1 </dev/null) || { printf '%s\n' "$said" "lib$1.a isn't built for $2" && exit 1; }
-    sed -n "s/^\(logic=proved functions=[0-9]* target=[^ ]*\).*/$1 $2: \1/p" <<<"$said" >>"$work/VERDICT"
+    sed -n "s/^\(logic=proved .*target=[^ ]*\).*/$1 $2: \1/p" <<<"$said" >>"$work/VERDICT"
 }
 
 if [ "${1-}" = --bitcode ]; then

@@ -74,6 +74,7 @@ impl Bump {
     }
     pub fn try_alloc_try_with<F: FnOnce() -> Result<T, E>, T, E>(&self, f: F) -> Result<&mut T, AllocOrInitError<E>> {
         let slot: *mut Result<T, E> = self.try_alloc_with(f)?;
+        // SAFETY: the slot was written, and nothing else refers to it. An error is moved out before its block is given back.
         unsafe {
             match &mut *slot {
                 Ok(x) => Ok(x),
@@ -99,6 +100,7 @@ impl Bump {
     }
 }
 
+// SAFETY: each call is passed on as it is, to an arena of which the same is true.
 unsafe impl<'a> alloc::Alloc for &'a Bump {
     unsafe fn alloc(&mut self, layout: Layout) -> Result<NonNull<u8>, AllocErr> {
         self.try_alloc_layout(layout)

@@ -9,6 +9,8 @@ use std::cell::UnsafeCell;
 use std::ptr::NonNull;
 use std::sync::atomic::{AtomicBool, Ordering::Relaxed};
 
+// SAFETY: of all unsafe code in this file: there is one thread, and no reference into LOG outlives its statement. A block is passed
+// on with the layout that it was granted for, and of its bytes only those that were written are read.
 struct Space;
 #[derive(Default, Clone)]
 struct Log {
