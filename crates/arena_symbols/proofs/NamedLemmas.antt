@@ -1,6 +1,6 @@
 -- An interner and a scoped table in one arena.
 use Rattle.std.proofs.lemmas.Bool.Decides.{nat_tests}
-use Rattle.std.proofs.Common.{◌≡◌, ℕ, List, [], ◌∷◌, ◌++◌, refl, sym, ap, ◌∙◌, inl, inr, Some, Ok, Err, Bool, true, false, ◌≢◌, ◌<◌, ◌≤◌, length, arith, None, ◌+◌, ◌-◌, ◌^◌}
+use Rattle.std.proofs.Common.{◌≡◌, ℕ, List, [], ◌∷◌, refl, sym, ap, ◌∙◌, inl, inr, Some, Ok, Err, Bool, true, false, ◌≢◌, ◌<◌, ◌≤◌, length, arith, None, ◌+◌, ◌-◌, ◌^◌}
 use Rattle.std.specs.Prelude.{if◌then◌else◌, not, Result, IfOk, IfErr, OnOk, ◌↔◌}
 use Rattle.std.proofs.lemmas.Result.{IfOk-weaker}
 use Rattle.arena_rules.proofs.AskingLemmas.{asks_more}
