@@ -29,7 +29,7 @@ made() {
     for name in "$root"/crates/*/out/rlib; do words+=(-L "dependency=$name"); done
     mkdir -p "$3/$2" "$kept/$1"
     said=$(cd "$root/crates/$1" && "$kit/bin/rattle" build --crate-name "$1" src/lib.rt "${words[@]}" --links "$1=" \
-        --antt-project "$kit/rattle/logic/antt-project.json" --logic-built "$kit/logic_built" --jobs "${JOBS:-1}" \
+        --antt-project "$kit/rattle/logic/antt-project.json" --logic-built "$kit/logic_built" --jobs "${JOBS:-2}" \
         --incremental "$kept/$1" --toolchain "$tools" --backend llvm --crate-type staticlib --target "$2" \
         -o "$3/$2/lib$1.a" 2>&1 </dev/null) || { printf '%s\n' "$said" "lib$1.a isn't built for $2" && exit 1; }
     sed -n "s/^\(logic=proved .*target=[^ ]*\).*/$1 $2: \1/p" <<<"$said" >>"$work/VERDICT"
