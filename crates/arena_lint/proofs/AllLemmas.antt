@@ -1,6 +1,6 @@
 -- What is promised of work on a lent arena, where the work is a source, is what is promised of the source alone.
-use Rattle.std.proofs.Common.{ℕ, inl, inr, List, [], ◌∷◌, map, length, refl, ap, arith}
-use Rattle.std.specs.List.{AllZip}
+use Rattle.std.proofs.Common.{ℕ, ◌+◌, inl, inr, List, [], ◌∷◌, map, length, refl, ap, arith}
+use Rattle.std.specs.List.{AllZip, enumerate_from}
 use Rattle.arena_chunks.specs.Source.{Source, View}
 use Rattle.arena_pool.specs.Kinds.{IsOfKind}
 use Rattle.arena_pool.specs.declared.kind.PoolKind.{PoolKind}
@@ -18,8 +18,8 @@ pub kind_kept : (old new : View) → KeepsKind old.memory new.memory → (kind :
     → IsOfKind kind new.memory.state
 kind_kept old new keeps = still_of_kind old.memory.state new.memory.state keeps.is_growing keeps.allocated
 
-module _ {C : Type 0} (source : C → Source) (kind : PoolKind) (bytes : List ℕ) (served : Served FileReport C) where
-  alone : IsServed source kind lint_terms bytes served → IsLintedAlone source kind bytes (linted served)
+module _ {C : Type 0} (source : C → Source) (kind : PoolKind) (i : ℕ) (bytes : List ℕ) (served : Served FileReport C) where
+  alone : IsServed source kind lint_terms (i, bytes) served → IsLintedAlone source kind bytes (linted served)
   alone (inr none) = record {
     reports = rw none.unserved tt;
     stopped = rw none.unserved (inr refl);
@@ -48,8 +48,15 @@ module _ {C : Type 0} (source : C → Source) (kind : PoolKind) (bytes : List �
     });
   }
 
+alone_from : {C : Type 0} (source : C → Source) (kind : PoolKind) (i : ℕ) (sources : List (List ℕ))
+    (all : List (Served FileReport C)) → AllZip (IsServed source kind lint_terms) (enumerate_from i sources) all
+    → AllZip (IsLintedAlone source kind) sources (map linted all)
+alone_from source kind i [] [] h = tt
+alone_from source kind i (bytes ∷ sources) (served ∷ all) h =
+    (alone source kind i bytes served h.0, alone_from source kind (i + 1) sources all h.1)
+alone_from source kind i _ _ h = absurd h
+
 pub all_alone : {C : Type 0} (source : C → Source) (kind : PoolKind) (sources : List (List ℕ)) (all : List (Served FileReport C))
-    → AllZip (IsServed source kind lint_terms) sources all → AllZip (IsLintedAlone source kind) sources (map linted all)
-all_alone source kind [] [] h = tt
-all_alone source kind (bytes ∷ sources) (served ∷ all) h = (alone source kind bytes served h.0, all_alone source kind sources all h.1)
-all_alone source kind _ _ h = absurd h
+    → AllZip (IsServed source kind lint_terms) (enumerate_from 0 sources) all
+    → AllZip (IsLintedAlone source kind) sources (map linted all)
+all_alone source kind = alone_from source kind 0

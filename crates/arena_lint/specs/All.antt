@@ -62,7 +62,7 @@ linted served = record { report = served.outcome; starved = served.starved }
 abbrev pub lint_terms : Terms (List ℕ) FileReport
 lint_terms = record {
   accepts = λ bytes. length bytes ≤ 2 ^ 24;
-  done = Lints;
+  done = λ i. Lints;
   unserved = λ report. report ≡ OutOfMemory;
   is_refused = is_refused;
 }

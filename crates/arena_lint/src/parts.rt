@@ -59,7 +59,7 @@ impl<'a, C: ChunkSource> Work<C> for Linting<'a> {
     ghost terms = { lint_terms };
 
     #[tactic(auto, using(crate::proofs::AllLemmas::kind_kept))]
-    fn run(&self, alloc: Global, a: &mut Allocator<C>, piece: &Source<'a>) -> FileReport {
+    fn run(&self, alloc: Global, a: &mut Allocator<C>, _i: u32, piece: &Source<'a>) -> FileReport {
         lint_one(alloc, a, piece.as_slice())
     }
 

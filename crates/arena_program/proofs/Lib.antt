@@ -1,6 +1,6 @@
 pub mod TaskLemmas
 pub mod MainLemmas
-pub mod ToldLemmas
+pub mod TextLemmas
 pub mod PrintoutLemmas
-pub mod TellingLemmas
+pub mod RenderingLemmas
 pub mod RunLemmas

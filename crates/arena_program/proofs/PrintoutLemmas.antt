@@ -7,7 +7,7 @@ use Rattle.std.proofs.lemmas.List.{append-nil, take-append-drop}
 use Rattle.line_parts.proofs.RoomLemmas.{take_next}
 use Rattle.arena_calls.specs.Streams.{Writes, WritesPart}
 use Rattle.arena_calls.proofs.StreamLemmas.{part_of_first, part_of_second}
-use Rattle.arena_program.specs.Told.{joined}
+use Rattle.arena_program.specs.Rendering.{joined}
 
 -- the last of some texts has another text behind it
 pub joined_last : (texts : List (Vec ℕ Global)) (last : ℕ) (d new : Vec ℕ Global) (text : List ℕ) → last + 1 ≡ length texts

@@ -1,5 +1,5 @@
 pub mod Words
 pub mod PoolEnds
-pub mod Told
+pub mod Rendering
 pub mod MainEnds
 pub mod Program

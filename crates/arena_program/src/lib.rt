@@ -9,10 +9,10 @@ mod parsing;
 mod pools;
 mod printout;
 mod program;
+mod rendered;
+mod rendering;
 mod run;
 mod tasks;
-mod telling;
-mod told;
 mod whole;
 
 pub use budget::{BudgetedMaker, program_maker};

@@ -8,10 +8,10 @@ ghost use Rattle.arena_lint.specs.All.{IsLintedAlone};
 ghost use Rattle.arena_calls.specs.Ends.{outside};
 ghost use Rattle.arena_program.specs.Words.{IsWithin};
 ghost use Rattle.arena_program.specs.PoolEnds.{LintEnds};
-ghost use Rattle.arena_program.specs.Told.{IsPrintout, linted_text};
+ghost use Rattle.arena_program.specs.Rendering.{IsPrintout, linted_text};
 
 use crate::printout::{Printout, print_all};
-use crate::telling::tell_all;
+use crate::rendering::render_all;
 use arena_calls::{Input, Output, ReadErr, Status, read_all};
 use arena_chunks::OutOfMemory;
 use arena_lint::Linting;
@@ -43,7 +43,6 @@ fn lint_over_pool<R: Threads + Wait + Sync, K: ChunkMaker + Drop + Send>(
 }
 
 // `L` names the pool; it occurs in no type of the signature.
-#[tactic(auto, using(crate::proofs::ToldLemmas::each_source))]
 fn lint_in_standard<
     L: PoolName + Send + Sync,
     R: Threads + Wait + Sync,
@@ -65,7 +64,7 @@ fn lint_in_standard<
     ensures { IfOk result (IsPrintout (IsLintedAlone K.Chunks.source Standard) linted_text (λ linted. linted.starved) sources.entry.items) }
 {
     let pool = AllocatorPool::<K, L>::new(alloc, workers, maker, blank)?;
-    tell_all(rt, alloc, &pool, workers, &Linting::new(), sources)
+    render_all(rt, alloc, &pool, workers, &Linting::new(), sources)
 }
 
 // The sources of an input: few enough, and none too long, to be linted.

@@ -4,11 +4,11 @@ ghost use Rattle.arena_pool.specs.Names.{IsBlankOf};
 ghost use Rattle.script_workers.specs.Serving.{IsServedAlone};
 ghost use Rattle.arena_program.specs.Words.{IsWithin, IsLender};
 ghost use Rattle.arena_program.specs.PoolEnds.{kind_of, limit_of, arenas_of};
-ghost use Rattle.arena_program.specs.Told.{IsPrintout, outcome_text, script_text};
+ghost use Rattle.arena_program.specs.Rendering.{IsPrintout, outcome_text, script_text};
 
 use crate::printout::Printout;
+use crate::rendering::render_all;
 use crate::tasks::{Lender, Task};
-use crate::telling::tell_all;
 use arena_pool::{AllocatorPool, ChunkMaker, MOST_LENT, OutOfMemory, PoolKind, PoolName};
 use arena_script::Job;
 use script_rules::Script;
@@ -66,7 +66,7 @@ pub fn run_task<R: Threads + Wait + Sync, K: ChunkMaker + Drop + Send, J: Job<K:
 }
 
 // `L` names the pool; it occurs in no type of the signature.
-#[tactic(auto, using(crate::proofs::TaskLemmas::has_regions, crate::proofs::TaskLemmas::has_limit, crate::proofs::ToldLemmas::each_script))]
+#[tactic(auto, using(crate::proofs::TaskLemmas::has_regions, crate::proofs::TaskLemmas::has_limit))]
 fn in_pool<
     L: PoolName + Send + Sync,
     R: Threads + Wait + Sync,
@@ -92,5 +92,5 @@ fn in_pool<
 {
     let (kind, limit) = kind_and_limit(task.lender);
     let pool = AllocatorPool::<K, L>::of_kind(alloc, kind, limit, arenas(task), maker, blank)?;
-    tell_all(rt, alloc, &pool, task.workers, &Scripts { job }, scripts)
+    render_all(rt, alloc, &pool, task.workers, &Scripts { job }, scripts)
 }

@@ -2,9 +2,9 @@
 ghost use Rattle.std.specs.Prelude.{◌≡◌, ◌++◌, ◌<◌, ◌^◌, length, IfOk, OnOk, OnErr};
 ghost use Rattle.arena_calls.specs.Ends.{Prints};
 ghost use Rattle.arena_program.specs.PoolEnds.{shown, starved_of};
-ghost use Rattle.arena_program.specs.Told.{joined, text_from, outcome_text, told_text};
+ghost use Rattle.arena_program.specs.Rendering.{joined, text_from, outcome_text, rendered_text};
 
-use crate::told::{Tells, Told};
+use crate::rendered::{Render, Rendered};
 use arena_calls::{Output, Status, write_all};
 use arena_chunks::{ChunkSource, OutOfMemory};
 use arena_workers::{Served, Starved};
@@ -70,13 +70,13 @@ fn gain<C: ChunkSource + Drop>(
 /// # Errors
 ///
 /// Out of memory.
-pub fn join<O: Tells + Drop, C: ChunkSource + Drop>(
+pub fn join<O: Render + Drop, C: ChunkSource + Drop>(
     alloc: Global,
-    all: Vec<Served<Told<O>, C>>,
+    all: Vec<Served<Rendered<O>, C>>,
 ) -> Result<Printout<C>, OutOfMemory>
     requires { length all.items < 2 ^ 32 }
     ensures text { IfOk result (λ printout.
-        joined printout.texts.items ≡ text_from (outcome_text (told_text O.text)) 0 all.items) }
+        joined printout.texts.items ≡ text_from (outcome_text (rendered_text O.text)) 0 all.items) }
     ensures starved { IfOk result (λ printout. printout.starved.items ≡ starved_of (λ served. served.starved) 0 all.items) }
 {
     let mut texts = Vec::new(alloc);

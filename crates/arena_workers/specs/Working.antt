@@ -1,5 +1,5 @@
 -- Work that is done on lent arenas, and the results of its pieces.
-use Rattle.std.specs.Prelude.{◌≡◌, ◌<◌, ◌≤◌, ◌^◌, ◌⊎◌, Bool, true, false, None, IsSomeAnd}
+use Rattle.std.specs.Prelude.{◌≡◌, ℕ, ◌<◌, ◌≤◌, ◌^◌, ◌⊎◌, Bool, true, false, None, IsSomeAnd}
 use Rattle.arena_rules.specs.State.{State, allocated_bytes, top_of}
 use Rattle.arena_chunks.specs.Source.{Source, View}
 use Rattle.arena_pool.specs.Kinds.{IsOfKind, IsUnused}
@@ -8,11 +8,11 @@ use Rattle.arena_workers.specs.declared.served.Served.{Served}
 use Rattle.arena_workers.specs.declared.served.Starved.{Starved}
 use Rattle.arena_workers.specs.declared.served.Starved.TheVariants.{Refused, Grown}
 
--- The terms of a kind of work: which pieces it accepts; how a piece relates the arena before and after, and the
+-- The terms of a kind of work: which pieces it accepts; how a piece with its number relates the arena before and after, and the
 -- outcome; what is known of the outcome of a piece that wasn't begun; and which outcomes say that an arena refused.
 pub record Terms (Piece Outcome : Type 0) : Type 1 where
   pub accepts : Piece → Type 0
-  pub done : Piece → View → View → Outcome → Type 0
+  pub done : ℕ → Piece → View → View → Outcome → Type 0
   pub unserved : Outcome → Type 0
   pub is_refused : Outcome → Bool
 
@@ -36,18 +36,18 @@ pub record IsUnserved {Piece Outcome C : Type 0} (terms : Terms Piece Outcome) (
   pub other : terms.is_refused served.outcome ≡ false
   pub none : served.starved ≡ None
 
--- The work was done on an arena of the pool's kind with no bytes in use, which was low. Something is kept of the arena
--- exactly if the outcome says that it refused.
-pub record IsDone {Piece Outcome C : Type 0} (source : C → Source) (kind : PoolKind) (terms : Terms Piece Outcome) (piece : Piece)
-    (served : Served Outcome C) : Type 0 where
+-- The work on the piece with this number was done on an arena of the pool's kind with no bytes in use, which was low.
+-- Something is kept of the arena exactly if the outcome says that it refused.
+pub record IsDone {Piece Outcome C : Type 0} (source : C → Source) (kind : PoolKind) (terms : Terms Piece Outcome)
+    (numbered : ℕ × Piece) (served : Served Outcome C) : Type 0 where
   pub old : View
   pub new : View
   pub unused : IsUnused kind old
   pub low : LiesLow old.memory.state
-  pub done : terms.done piece old new served.outcome
+  pub done : terms.done numbered.0 numbered.1 old new served.outcome
   pub of_kind : IsOfKind kind new.memory.state
   pub refused : terms.is_refused served.outcome ≡ true → IsSomeAnd served.starved (IsKept source new)
   pub other : terms.is_refused served.outcome ≡ false → served.starved ≡ None
 
-abbrev pub IsServed : {Piece Outcome C : Type 0} → (C → Source) → PoolKind → Terms Piece Outcome → Piece → Served Outcome C → Type 0
-IsServed source kind terms piece served = IsDone source kind terms piece served ⊎ IsUnserved terms served
+abbrev pub IsServed : {Piece Outcome C : Type 0} → (C → Source) → PoolKind → Terms Piece Outcome → ℕ × Piece → Served Outcome C → Type 0
+IsServed source kind terms numbered served = IsDone source kind terms numbered served ⊎ IsUnserved terms served

@@ -56,16 +56,21 @@ impl<'p, 'w, K: ChunkMaker, L: PoolName, W: Work<K::Chunks>> Crew<'p, 'w, K, L, 
 
     // Does the work on one piece, on an arena of the pool. An arena whose newest chunk ends too high is given up, and
     // another is taken.
-    pub(crate) fn serve<R: Wait>(&self, rt: &R, piece: &W::Piece) -> Served<W::Outcome, K::Chunks>
+    pub(crate) fn serve<R: Wait>(
+        &self,
+        rt: &R,
+        i: u32,
+        piece: &W::Piece,
+    ) -> Served<W::Outcome, K::Chunks>
         requires { W.terms.accepts piece.now }
-        ensures { IsServed K.Chunks.source L.kind W.terms piece.now result }
+        ensures { IsServed K.Chunks.source L.kind W.terms (i, piece.now) result }
     {
         for _ in rt.forever() {
             let Ok(mut guard) = self.pool.get_wait(rt) else {
                 break;
             };
             if !is_high(guard.parts_mut()) {
-                return self.serve_on(rt, guard, piece);
+                return self.serve_on(rt, guard, i, piece);
             }
             let _ = guard.give_up(rt);
         }
@@ -77,14 +82,15 @@ impl<'p, 'w, K: ChunkMaker, L: PoolName, W: Work<K::Chunks>> Crew<'p, 'w, K, L, 
         &self,
         rt: &R,
         mut guard: AllocatorGuard<'_, K, L>,
+        i: u32,
         piece: &W::Piece,
     ) -> Served<W::Outcome, K::Chunks>
         requires accepted { W.terms.accepts piece.now }
         requires unused { IsUnused L.kind guard.0 }
         requires low { LiesLow guard.0.memory.state }
-        ensures { IsServed K.Chunks.source L.kind W.terms piece.now result }
+        ensures { IsServed K.Chunks.source L.kind W.terms (i, piece.now) result }
     {
-        let outcome = self.work.run(self.alloc, guard.parts_mut(), piece);
+        let outcome = self.work.run(self.alloc, guard.parts_mut(), i, piece);
         let starved = if self.work.is_refused(&outcome) {
             Some(kept(guard.give_up(rt)))
         } else {

@@ -1,6 +1,6 @@
 // Outcomes in the order of the pieces.
-ghost use Rattle.std.specs.Prelude.{◌≡◌, ◌<◌, All, IfOk, slice_set, vec_len};
-ghost use Rattle.std.specs.List.{AllZip};
+ghost use Rattle.std.specs.Prelude.{◌≡◌, ℕ, ◌<◌, List, All, IfOk, length, slice_set, vec_len};
+ghost use Rattle.std.specs.List.{AllZip, enumerate_from};
 ghost use Rattle.arena_workers.specs.Working.{IsServed};
 ghost use Rattle.arena_workers.specs.Order.{IsShift};
 
@@ -19,29 +19,25 @@ impl<'p, 'w, K: ChunkMaker, L: PoolName, W: Work<K::Chunks>> Crew<'p, 'w, K, L, 
         pieces: &[W::Piece],
         shifts: Vec<Shift<W::Outcome, K::Chunks>>,
     ) -> Result<Vec<Served<W::Outcome, K::Chunks>>, OutOfMemory>
-        requires { All (λ shift. IsShift (IsServed K.Chunks.source L.kind W.terms) pieces.now shift.items) shifts.items }
-        ensures { IfOk result (λ all. AllZip (IsServed K.Chunks.source L.kind W.terms) pieces.now all.items) }
+        requires { All (λ shift. IsShift (IsServed K.Chunks.source L.kind W.terms) (enumerate_from 0 pieces.now) shift.items) shifts.items }
+        ensures { IfOk result (λ all. AllZip (IsServed K.Chunks.source L.kind W.terms) (enumerate_from 0 pieces.now) all.items) }
     {
         let mut all = Vec::with_capacity(self.alloc, pieces.len())?;
         for _piece in pieces {
             all.push_reserved(self.unserved());
         }
         for shift in shifts {
-            self.place(pieces, &mut all, shift);
+            Self::place(&mut all, shift);
         }
         Ok(all)
     }
 
     // Puts each outcome of a worker into its place.
-    fn place(
-        &self,
-        pieces: &[W::Piece],
-        all: &mut Vec<Served<W::Outcome, K::Chunks>>,
-        shift: Shift<W::Outcome, K::Chunks>,
-    )
-        requires all { AllZip (IsServed K.Chunks.source L.kind W.terms) pieces.now all.old.items }
-        requires shift { IsShift (IsServed K.Chunks.source L.kind W.terms) pieces.now shift.items }
-        ensures { AllZip (IsServed K.Chunks.source L.kind W.terms) pieces.now all.new.items }
+    fn place(all: &mut Vec<Served<W::Outcome, K::Chunks>>, shift: Shift<W::Outcome, K::Chunks>)
+        requires inside { All (λ numbered. numbered.0 < length all.old.items) shift.items }
+        ensures { (pieces : List (ℕ × W.Piece)) → AllZip (IsServed K.Chunks.source L.kind W.terms) pieces all.old.items
+            → IsShift (IsServed K.Chunks.source L.kind W.terms) pieces shift.items
+            → AllZip (IsServed K.Chunks.source L.kind W.terms) pieces all.new.items }
     {
         for (i, served) in shift {
             put(all, i, served);

@@ -1,5 +1,6 @@
 // What one worker does.
 ghost use Rattle.std.specs.Prelude.{◌≡◌, ◌<◌, ◌^◌, All, length};
+ghost use Rattle.std.specs.List.{enumerate_from};
 ghost use Rattle.arena_workers.specs.Working.{IsServed};
 ghost use Rattle.arena_workers.specs.Order.{IsShift};
 
@@ -28,7 +29,7 @@ impl<'p, 'w, K: ChunkMaker, L: PoolName, W: Work<K::Chunks>> Crew<'p, 'w, K, L, 
         requires words { length pieces.now ≡ claims.now.words }
         requires few { length pieces.now < 2 ^ 32 }
         requires accepted { All W.terms.accepts pieces.now }
-        ensures { IsShift (IsServed K.Chunks.source L.kind W.terms) pieces.now result.items }
+        ensures { IsShift (IsServed K.Chunks.source L.kind W.terms) (enumerate_from 0 pieces.now) result.items }
     {
         let mut done = Vec::new(self.alloc);
         for i in 0..pieces.len() {
@@ -40,7 +41,7 @@ impl<'p, 'w, K: ChunkMaker, L: PoolName, W: Work<K::Chunks>> Crew<'p, 'w, K, L, 
                 continue;
             }
             gate.started(i as u32);
-            let served = self.serve(rt, &pieces[i]);
+            let served = self.serve(rt, i as u32, &pieces[i]);
             gate.finished(i as u32);
             done.push_reserved((i, served));
         }

@@ -20,11 +20,11 @@ pub trait Work<C: ChunkSource> {
     // The requirements on a piece, and what is known of the outcome.
     ghost terms: { Terms Self.Piece Self.Outcome };
 
-    /// Does the work on one piece. The arena keeps its kind.
-    fn run(&self, alloc: Global, a: &mut Allocator<C>, piece: &Self::Piece) -> Self::Outcome
+    /// Does the work on the piece with this number, from 0. The arena keeps its kind.
+    fn run(&self, alloc: Global, a: &mut Allocator<C>, i: u32, piece: &Self::Piece) -> Self::Outcome
         requires unused { used_bytes a.old.memory.state ≡ 0 }
         requires accepted { terms.accepts piece.now }
-        ensures done { terms.done piece.now a.old a.new result }
+        ensures done { terms.done i piece.now a.old a.new result }
         ensures kind { (kind : PoolKind) → IsOfKind kind a.old.memory.state → IsOfKind kind a.new.memory.state };
 
     /// Returns the outcome of a piece that no worker had the memory to begin. It doesn't say that an arena refused. It

@@ -1,6 +1,6 @@
 // Workers that share out pieces of work.
 ghost use Rattle.std.specs.Prelude.{◌≡◌, ℕ, ◌<◌, ◌≤◌, ◌^◌, All, length, IfOk, vec_len};
-ghost use Rattle.std.specs.List.{AllZip};
+ghost use Rattle.std.specs.List.{AllZip, enumerate_from};
 ghost use Rattle.arena_workers.specs.Working.{IsServed};
 ghost use Rattle.arena_workers.specs.Order.{IsShift};
 
@@ -39,8 +39,8 @@ fn seats(
 /// each:
 ///
 /// - An arena that grows and whose newest chunk ends above 2^62 is given up, and another is borrowed.
-/// An arena that refused, as its outcome says, is given up, and what shows why is returned with the outcome.
-/// Every other arena is put back.
+/// - An arena that refused, as its outcome says, is given up, and what shows why is returned with the outcome.
+/// - Every other arena is put back.
 ///
 /// A piece without memory for its arena or for its outcome is unserved. Threads pass nothing to each other but their
 /// results. The call waits at the pool's lock, and forever over a fixed pool that has no arena.
@@ -66,7 +66,7 @@ pub fn run_all<
     requires some { 0 < workers }
     requires few { length pieces.now < 2 ^ 32 }
     requires accepted { All W.terms.accepts pieces.now }
-    ensures { IfOk result (λ all. AllZip (IsServed K.Chunks.source L.kind W.terms) pieces.now all.items) }
+    ensures { IfOk result (λ all. AllZip (IsServed K.Chunks.source L.kind W.terms) (enumerate_from 0 pieces.now) all.items) }
 {
     if pieces.is_empty() {
         return Ok(Vec::new(alloc));
@@ -82,7 +82,7 @@ pub fn run_all<
         &|seat: ClaimSeat| -> Shift<W::Outcome, K::Chunks>
             requires { (seat.table ≡ claims) × (length pieces.now ≡ claims.words) × (length pieces.now < 2 ^ 32)
                 × All W.terms.accepts pieces.now }
-            ensures { IsShift (IsServed K.Chunks.source L.kind W.terms) pieces.entry.now result.items }
+            ensures { IsShift (IsServed K.Chunks.source L.kind W.terms) (enumerate_from 0 pieces.entry.now) result.items }
         { crew.shift(rt, &claims, seat, gate, pieces) },
     )?;
     crew.in_order(pieces, shifts)

@@ -72,7 +72,7 @@ fn done<C: ChunkSource, W: Work<C>>(
     piece: &W::Piece,
 ) {
     return;
-    let outcome: W::Outcome = work.run(alloc, a, piece);
+    let outcome: W::Outcome = work.run(alloc, a, 0, piece);
     let _: bool = work.is_refused(&outcome);
     let _: W::Outcome = work.unserved(alloc);
 }

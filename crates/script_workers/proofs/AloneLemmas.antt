@@ -1,6 +1,6 @@
 -- What is promised of work on a lent arena, where the work is a script, is what is promised of the script alone.
-use Rattle.std.proofs.Common.{◌≡◌, ◌≢◌, ◌+◌, ◌⊎◌, inl, inr, false, List, [], ◌∷◌, length, take, sym, refl, ap, ◌∙◌, arith}
-use Rattle.std.specs.List.{AllZip}
+use Rattle.std.proofs.Common.{◌≡◌, ◌≢◌, ℕ, ◌+◌, ◌⊎◌, inl, inr, false, List, [], ◌∷◌, length, take, sym, refl, ap, ◌∙◌, arith}
+use Rattle.std.specs.List.{AllZip, enumerate_from}
 use Rattle.arena_chunks.specs.Source.{Source, View}
 use Rattle.arena_pool.specs.Kinds.{IsOfKind}
 use Rattle.arena_pool.specs.declared.kind.PoolKind.{PoolKind}
@@ -36,8 +36,8 @@ not_refused ended.Full other = refl
 not_refused ended.Refused other = absurd (other refl)
 not_refused ended.OutOfMemory other = refl
 
-module _ {C : Type 0} (source : C → Source) (kind : PoolKind) (worked : List Command → Outcome → Type 0) (script : List Command)
-    (served : Served Outcome C) where
+module _ {C : Type 0} (source : C → Source) (kind : PoolKind) (worked : List Command → Outcome → Type 0) (i : ℕ)
+    (script : List Command) (served : Served Outcome C) where
   -- ---- A script that wasn't started
 
   unserved_alone : HasNoArena (script_terms worked) served → IsServedAlone source kind worked script served
@@ -61,7 +61,7 @@ module _ {C : Type 0} (source : C → Source) (kind : PoolKind) (worked : List C
 
   -- ---- A script that was run on a lent arena
 
-  module _ (done : IsDone source kind (script_terms worked) script served) where
+  module _ (done : IsDone source kind (script_terms worked) (i, script) served) where
     stopped_alone : served.outcome.ended ≢ ended.Done → IsUnserved served.outcome ⊎ IsStoppedAt script served.outcome
     stopped_alone other = elim (done.done.ran.stopped other) [
       | inl unbegun ↦ inl (record {
@@ -98,16 +98,22 @@ module _ {C : Type 0} (source : C → Source) (kind : PoolKind) (worked : List C
       relation = inl done.done.did;
     }
 
-  alone : IsServed source kind (script_terms worked) script served → IsServedAlone source kind worked script served
+  alone : IsServed source kind (script_terms worked) (i, script) served → IsServedAlone source kind worked script served
   alone is = elim is [ inl done ↦ done_alone done | inr none ↦ unserved_alone none ]
 
 -- ---- All scripts
 
-pub all_alone : {C : Type 0} (source : C → Source) (kind : PoolKind) (worked : List Command → Outcome → Type 0)
-    (scripts : List (List Command)) (all : List (Served Outcome C)) → AllZip (IsServed source kind (script_terms worked)) scripts all
+alone_from : {C : Type 0} (source : C → Source) (kind : PoolKind) (worked : List Command → Outcome → Type 0) (i : ℕ)
+    (scripts : List (List Command)) (all : List (Served Outcome C))
+    → AllZip (IsServed source kind (script_terms worked)) (enumerate_from i scripts) all
     → AllZip (IsServedAlone source kind worked) scripts all
-all_alone source kind worked [] [] are = tt
-all_alone source kind worked [] (served ∷ all) are = are
-all_alone source kind worked (script ∷ scripts) [] are = are
-all_alone source kind worked (script ∷ scripts) (served ∷ all) are =
-    (alone source kind worked script served are.0, all_alone source kind worked scripts all are.1)
+alone_from source kind worked i [] [] are = tt
+alone_from source kind worked i (script ∷ scripts) (served ∷ all) are =
+    (alone source kind worked i script served are.0, alone_from source kind worked (i + 1) scripts all are.1)
+alone_from source kind worked i _ _ are = absurd are
+
+pub all_alone : {C : Type 0} (source : C → Source) (kind : PoolKind) (worked : List Command → Outcome → Type 0)
+    (scripts : List (List Command)) (all : List (Served Outcome C))
+    → AllZip (IsServed source kind (script_terms worked)) (enumerate_from 0 scripts) all
+    → AllZip (IsServedAlone source kind worked) scripts all
+all_alone source kind worked = alone_from source kind worked 0

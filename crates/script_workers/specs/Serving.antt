@@ -68,7 +68,7 @@ pub record IsRunBy (worked : List Command → Outcome → Type 0) (script : List
 abbrev pub script_terms : (List Command → Outcome → Type 0) → Terms (List Command) Outcome
 script_terms worked = record {
   accepts = λ script. ⊤;
-  done = IsRunBy worked;
+  done = λ i. IsRunBy worked;
   unserved = IsUnserved;
   is_refused = λ outcome. is_refused outcome.ended;
 }

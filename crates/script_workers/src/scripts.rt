@@ -25,7 +25,7 @@ impl<'a, C: ChunkSource, J: Job<C>> Work<C> for Scripts<'a, J> {
     ghost terms = { script_terms J.worked };
 
     #[tactic(auto, using(crate::proofs::AloneLemmas::kind_kept))]
-    fn run(&self, alloc: Global, a: &mut Allocator<C>, piece: &Script) -> Outcome {
+    fn run(&self, alloc: Global, a: &mut Allocator<C>, _i: u32, piece: &Script) -> Outcome {
         self.job.run(alloc, a, piece)
     }
 

@@ -3,9 +3,9 @@ use Rattle.arena_pool.specs.declared.kind.PoolKind.TheVariants.{Standard}
 use Rattle.lint_reports.specs.Sources.{sources}
 use Rattle.arena_lint.specs.All.{IsLintedAlone}
 use Rattle.arena_program.specs.PoolEnds.{SourcesOf, text_of_linted}
-use Rattle.arena_program.specs.Told.{joined}
+use Rattle.arena_program.specs.Rendering.{joined}
 use Rattle.arena_program.proofs.RunLemmas.{pieces_printed}
-use Rattle.arena_program.proofs.ToldLemmas.{reports_from}
+use Rattle.arena_program.proofs.TextLemmas.{reports_from}
 use Rattle.arena_program.proofs.lint.run_sources.Goals as goal
 
 pub returns : goal.returns

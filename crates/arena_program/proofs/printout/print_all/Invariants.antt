@@ -1,6 +1,6 @@
 use Rattle.std.proofs.Common.{◌≡◌, take}
 use Rattle.arena_calls.specs.Streams.{Writes}
-use Rattle.arena_program.specs.Told.{joined}
+use Rattle.arena_program.specs.Rendering.{joined}
 use Rattle.arena_program.proofs.printout.print_all.Given as goal
 
 abbrev pub invariant-loop-text : goal.invariant-loop-text

@@ -2,9 +2,9 @@ use Rattle.std.proofs.Common.{◌∙◌, refl, ap, arith}
 use Rattle.script_rules.specs.Grammar.{ScriptsOf}
 use Rattle.script_workers.specs.Serving.{IsServedAlone}
 use Rattle.arena_program.specs.PoolEnds.{kind_of, text_of_served}
-use Rattle.arena_program.specs.Told.{joined}
+use Rattle.arena_program.specs.Rendering.{joined}
 use Rattle.arena_program.proofs.RunLemmas.{pieces_printed}
-use Rattle.arena_program.proofs.ToldLemmas.{scripts_from}
+use Rattle.arena_program.proofs.TextLemmas.{scripts_from}
 use Rattle.arena_program.proofs.run.run_lines_of_scripts.Goals as goal
 
 pub returns : goal.returns

@@ -1,5 +1,5 @@
 use Rattle.std.proofs.Common.{◌≡◌, ◌≤◌, length, vec_len, vec_capacity, All}
-use Rattle.std.specs.List.{AllZip}
+use Rattle.std.specs.List.{AllZip, enumerate_from}
 use Rattle.std.specs.Vec.Iter.{into_iter_items}
 use Rattle.arena_workers.specs.Working.{IsServed, IsUnserved}
 use Rattle.arena_workers.specs.Order.{IsShift}
@@ -12,4 +12,5 @@ invariant-loop-piece g l =
 abbrev pub invariant-loop-shift : goal.invariant-loop-shift
 invariant-loop-shift g l =
     let served = IsServed g.K.Chunks.ChunkSource.source g.L.PoolName.kind g.W.Work.terms in
-    AllZip served l.pieces l.all.items × All (λ shift. IsShift served l.pieces shift.items) (into_iter_items l.shift-iterator)
+    let pieces = enumerate_from 0 l.pieces in
+    AllZip served pieces l.all.items × All (λ shift. IsShift served pieces shift.items) (into_iter_items l.shift-iterator)

@@ -1,4 +1,3 @@
-use Rattle.std.proofs.Common.{subst}
 use Rattle.arena_workers.specs.Working.{IsServed}
 use Rattle.arena_workers.proofs.OrderLemmas.{longer}
 use Rattle.arena_workers.proofs.lent.Crew.shift.Goals as goal
@@ -8,6 +7,6 @@ loop-i-preserved g c =
     let served = IsServed g.K.Chunks.ChunkSource.source g.L.PoolName.kind g.W.Work.terms in (
       c.claim.ensures.seat,
       rw (c.push_reserved.ensures.items, c.reserve.ensures.items)
-          (longer served c.args.pieces.now _ _ c.index-pieces-i.result _ c.loop-i.invariant.1 c.loop-i-test.true
-          (subst (λ (p : g.row.W-Piece.Denot). served p c.serve-served.result) c.index-pieces-i.is c.serve-served.ensures)),
+          (longer served c.args.pieces.now _ _ c.index-pieces-i.result _ c.loop-i.invariant.1 c.loop-i-test.true c.index-pieces-i.is
+          c.serve-served.ensures),
     )

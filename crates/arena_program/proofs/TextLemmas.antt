@@ -1,7 +1,7 @@
 -- The texts of the outcomes of scripts and of the reports of sources, and what is promised of these.
 use Rattle.std.proofs.Common.{◌≡◌, ℕ, ◌+◌, List, [], ◌∷◌, ◌++◌, map, refl, sym, ap, ◌∙◌}
 use Rattle.std.specs.Prelude.{Result, Ok, Err, IfOk}
-use Rattle.std.specs.List.{flat_map}
+use Rattle.std.specs.List.{flat_map, enumerate_from}
 use Rattle.std.proofs.lemmas.Grind.{flat_map-append}
 use Rattle.line_parts.specs.Numbers.{with_feed}
 use Rattle.script_rules.specs.Outcomes.{told, outcome_lines, lines_from}
@@ -19,8 +19,8 @@ use Rattle.arena_lint.proofs.AllLemmas.{all_alone as linted_alone}
 use Rattle.script_workers.specs.Serving.{IsServedAlone, script_terms}
 use Rattle.script_workers.proofs.AloneLemmas.{all_alone as scripts_alone}
 use Rattle.script_rules.specs.declared.commands.Command.{Command}
-use Rattle.arena_program.specs.PoolEnds.{shown, starved_of, text_of_served, text_of_linted}
-use Rattle.arena_program.specs.Told.{script_text, linted_text, outcome_text, text_from, IsPrintout}
+use Rattle.arena_program.specs.PoolEnds.{shown, starved_of}
+use Rattle.arena_program.specs.Rendering.{script_text, linted_text, outcome_text, text_from, IsPrintout}
 use Rattle.arena_program.specs.declared.printout.Printout.{Printout}
 
 -- ---- The texts of all
@@ -41,7 +41,8 @@ reports_from i (linted ∷ all) = ap (λ xs. linted_text i linted ++ xs) (report
 
 module _ {C : Type 0} (source : C → Source) (kind : PoolKind) where
   pub each_script : {E : Type 0} (worked : List Command → Outcome → Type 0) (scripts : List (List Command)) (r : Result (Printout C) E)
-      → IfOk r (IsPrintout (IsServed source kind (script_terms worked)) (outcome_text script_text) (λ s. s.starved) scripts)
+      → IfOk r (IsPrintout (IsServed source kind (script_terms worked)) (outcome_text script_text) (λ s. s.starved)
+      (enumerate_from 0 scripts))
       → IfOk r (IsPrintout (IsServedAlone source kind worked) (outcome_text script_text) (λ s. s.starved) scripts)
   each_script worked scripts (Ok printout) is = record {
     all = is.all;
@@ -62,7 +63,7 @@ module _ {C : Type 0} (source : C → Source) (kind : PoolKind) where
   linted_starved i (served ∷ all) = ap (λ xs. shown i served.starved ++ xs) (linted_starved (i + 1) all)
 
   pub each_source : {E : Type 0} (sources : List (List ℕ)) (r : Result (Printout C) E)
-      → IfOk r (IsPrintout (IsServed source kind lint_terms) (outcome_text reports.report_text) (λ s. s.starved) sources)
+      → IfOk r (IsPrintout (IsServed source kind lint_terms) (outcome_text reports.report_text) (λ s. s.starved) (enumerate_from 0 sources))
       → IfOk r (IsPrintout (IsLintedAlone source kind) linted_text (λ l. l.starved) sources)
   each_source sources (Ok printout) is = record {
     all = map linted is.all;

@@ -11,8 +11,8 @@ use Rattle.arena_workers.specs.declared.served.Served.{Served}
 use Rattle.arena_workers.specs.declared.served.Starved.{Starved}
 use Rattle.arena_lint.specs.declared.parts.Linted.{Linted}
 use Rattle.arena_program.specs.PoolEnds.{starved_of}
-use Rattle.arena_program.specs.declared.told.Told.{Told}
-use Rattle.arena_program.specs.declared.told.Told.TheVariants.{Text, Untold}
+use Rattle.arena_program.specs.declared.rendered.Rendered.{Rendered}
+use Rattle.arena_program.specs.declared.rendered.Rendered.TheVariants.{Text, Unrendered}
 use Rattle.arena_program.specs.declared.printout.Printout.{Printout}
 
 -- ---- Texts
@@ -48,25 +48,24 @@ pub record IsPrintout {P S C : Type 0} (promise : P → S → Type 0) (text : �
 -- ---- What workers leave
 
 -- the text of the outcome of the piece of this number, by what is left of it; and whether it says that an arena refused
-abbrev pub told_text : {O : Type 0} → (ℕ → O → List ℕ) → ℕ → Told O → List ℕ
-told_text text i (Text bytes refused) = bytes.items
-told_text text i (Untold outcome) = text i outcome
+abbrev pub rendered_text : {O : Type 0} → (ℕ → O → List ℕ) → ℕ → Rendered O → List ℕ
+rendered_text text i (Text bytes refused) = bytes.items
+rendered_text text i (Unrendered outcome) = text i outcome
 
-abbrev pub told_refused : {O : Type 0} → (O → Bool) → Told O → Bool
-told_refused is_refused (Text bytes refused) = refused
-told_refused is_refused (Untold outcome) = is_refused outcome
+abbrev pub rendered_refused : {O : Type 0} → (O → Bool) → Rendered O → Bool
+rendered_refused is_refused (Text bytes refused) = refused
+rendered_refused is_refused (Unrendered outcome) = is_refused outcome
 
 -- this is left of the outcome of the piece of this number
-pub record IsLeft {O : Type 0} (text : ℕ → O → List ℕ) (is_refused : O → Bool) (i : ℕ) (outcome : O) (told : Told O) : Type 0 where
-  pub same_text : told_text text i told ≡ text i outcome
-  pub same_refused : told_refused is_refused told ≡ is_refused outcome
+pub record Renders {O : Type 0} (text : ℕ → O → List ℕ) (is_refused : O → Bool) (i : ℕ) (outcome : O) (left : Rendered O) : Type 0 where
+  pub same_text : rendered_text text i left ≡ text i outcome
+  pub same_refused : rendered_refused is_refused left ≡ is_refused outcome
 
--- work on numbered pieces, where this is left of an outcome of the work on the pieces
-abbrev pub told_terms : {P O : Type 0} → (ℕ → O → List ℕ) → Terms P O → Terms (ℕ × P) (Told O)
-told_terms text terms = record {
-  accepts = λ numbered. terms.accepts numbered.1;
-  done = λ numbered old new told. (outcome : _) × terms.done numbered.1 old new outcome
-      × IsLeft text terms.is_refused numbered.0 outcome told;
-  unserved = λ told. (outcome : _) × terms.unserved outcome × (told ≡ Untold outcome);
-  is_refused = told_refused terms.is_refused;
+-- the same work, where this is left of an outcome
+abbrev pub rendered_terms : {P O : Type 0} → (ℕ → O → List ℕ) → Terms P O → Terms P (Rendered O)
+rendered_terms text terms = record {
+  accepts = terms.accepts;
+  done = λ i piece old new left. (outcome : _) × terms.done i piece old new outcome × Renders text terms.is_refused i outcome left;
+  unserved = λ left. (outcome : _) × terms.unserved outcome × (left ≡ Unrendered outcome);
+  is_refused = rendered_refused terms.is_refused;
 }

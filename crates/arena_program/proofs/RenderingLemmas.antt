@@ -1,27 +1,21 @@
 -- What workers leave of outcomes, and the results that they are left of.
-use Rattle.std.proofs.Common.{◌≡◌, ℕ, ◌+◌, List, [], ◌∷◌, ◌++◌, All, refl, sym, ap, ◌∙◌, inl, inr}
+use Rattle.std.proofs.Common.{◌≡◌, ℕ, ◌+◌, List, [], ◌∷◌, ◌++◌, refl, sym, ap, ◌∙◌, inl, inr}
 use Rattle.std.specs.Prelude.{Result, Ok, Err, IfOk}
 use Rattle.std.specs.List.{AllZip, enumerate_from}
-use Rattle.std.proofs.lemmas.List.Elements.{All-nil, All-cons, All-head, All-tail}
 use Rattle.arena_chunks.specs.Source.{Source}
 use Rattle.arena_pool.specs.declared.kind.PoolKind.{PoolKind}
 use Rattle.arena_workers.specs.Working.{Terms, IsServed}
 use Rattle.arena_workers.specs.declared.served.Served.{Served}
 use Rattle.arena_program.specs.PoolEnds.{shown, starved_of}
-use Rattle.arena_program.specs.Told.{outcome_text, text_from, joined, IsPrintout, told_text, told_refused, told_terms}
+use Rattle.arena_program.specs.Rendering.{outcome_text, text_from, joined, IsPrintout, rendered_text, rendered_refused, rendered_terms}
 use Rattle.arena_program.specs.declared.printout.Printout.{Printout}
-use Rattle.arena_program.specs.declared.told.Told.{Told}
+use Rattle.arena_program.specs.declared.rendered.Rendered.{Rendered}
 
 module _ {P O : Type 0} (text : ℕ → O → List ℕ) (terms : Terms P O) where
-  pub accepted : (i : ℕ) (pieces : List P) → All terms.accepts pieces → All (told_terms text terms).accepts (enumerate_from i pieces)
-  accepted i [] are = All-nil (told_terms text terms).accepts
-  accepted i (piece ∷ pieces) are = All-cons (told_terms text terms).accepts (i, piece) (enumerate_from (i + 1) pieces)
-      (All-head terms.accepts piece pieces are) (accepted (i + 1) pieces (All-tail terms.accepts piece pieces are))
-
   module _ {C : Type 0} (source : C → Source) (kind : PoolKind) where
     -- the result of one piece, of which this is left
-    one_of : (i : ℕ) (piece : P) (left : Served (Told O) C) → IsServed source kind (told_terms text terms) (i, piece) left
-        → (served : Served O C) × IsServed source kind terms piece served × (told_text text i left.outcome ≡ text i served.outcome)
+    one_of : (i : ℕ) (piece : P) (left : Served (Rendered O) C) → IsServed source kind (rendered_terms text terms) (i, piece) left
+        → (served : Served O C) × IsServed source kind terms (i, piece) served × (rendered_text text i left.outcome ≡ text i served.outcome)
         × (left.starved ≡ served.starved)
     one_of i piece left (inl done) =
         let is = done.done.2 in (
@@ -43,17 +37,17 @@ module _ {P O : Type 0} (text : ℕ → O → List ℕ) (terms : Terms P O) wher
       record { outcome = none.unserved.0; starved = left.starved },
       inr (record {
         unserved = none.unserved.1;
-        other = sym (ap (told_refused terms.is_refused) same) ∙ none.other;
+        other = sym (ap (rendered_refused terms.is_refused) same) ∙ none.other;
         none = none.none;
       }),
-      ap (told_text text i) same,
+      ap (rendered_text text i) same,
       refl,
     )
 
-    all_of : (i : ℕ) (pieces : List P) (left : List (Served (Told O) C))
-        → AllZip (IsServed source kind (told_terms text terms)) (enumerate_from i pieces) left
-        → (all : List (Served O C)) × AllZip (IsServed source kind terms) pieces all
-        × (text_from (outcome_text (told_text text)) i left ≡ text_from (outcome_text text) i all)
+    all_of : (i : ℕ) (pieces : List P) (left : List (Served (Rendered O) C))
+        → AllZip (IsServed source kind (rendered_terms text terms)) (enumerate_from i pieces) left
+        → (all : List (Served O C)) × AllZip (IsServed source kind terms) (enumerate_from i pieces) all
+        × (text_from (outcome_text (rendered_text text)) i left ≡ text_from (outcome_text text) i all)
         × (starved_of (λ s. s.starved) i left ≡ starved_of (λ s. s.starved) i all)
     all_of i [] [] are = ([], tt, refl, refl)
     all_of i [] (_ ∷ left) are = absurd are
@@ -63,16 +57,16 @@ module _ {P O : Type 0} (text : ℕ → O → List ℕ) (terms : Terms P O) wher
         let rest = all_of (i + 1) pieces left are.1 in (
           one.0 ∷ rest.0,
           (one.1, rest.1),
-          ap (λ xs. xs ++ text_from (outcome_text (told_text text)) (i + 1) left) one.2 ∙ ap (λ xs. text i one.0.outcome ++ xs) rest.2,
+          ap (λ xs. xs ++ text_from (outcome_text (rendered_text text)) (i + 1) left) one.2 ∙ ap (λ xs. text i one.0.outcome ++ xs) rest.2,
           ap (λ x. shown i x ++ starved_of (λ s. s.starved) (i + 1) left) one.3 ∙ ap (λ xs. shown i one.0.starved ++ xs) rest.3,
         )
 
     -- what is put together of what workers left is a printout of the results
-    pub printed_of : {E : Type 0} (pieces : List P) (left : List (Served (Told O) C)) (r : Result (Printout C) E)
-        → AllZip (IsServed source kind (told_terms text terms)) (enumerate_from 0 pieces) left
-        → IfOk r (λ printout. joined printout.texts.items ≡ text_from (outcome_text (told_text text)) 0 left)
+    pub printed_of : {E : Type 0} (pieces : List P) (left : List (Served (Rendered O) C)) (r : Result (Printout C) E)
+        → AllZip (IsServed source kind (rendered_terms text terms)) (enumerate_from 0 pieces) left
+        → IfOk r (λ printout. joined printout.texts.items ≡ text_from (outcome_text (rendered_text text)) 0 left)
         → IfOk r (λ printout. printout.starved.items ≡ starved_of (λ s. s.starved) 0 left)
-        → IfOk r (IsPrintout (IsServed source kind terms) (outcome_text text) (λ s. s.starved) pieces)
+        → IfOk r (IsPrintout (IsServed source kind terms) (outcome_text text) (λ s. s.starved) (enumerate_from 0 pieces))
     printed_of pieces left (Ok printout) are texts starved = let of = all_of 0 pieces left are in record {
       all = of.0;
       alone = of.1;

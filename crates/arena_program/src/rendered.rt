@@ -1,6 +1,6 @@
 // The texts of outcomes, which the workers make.
 ghost use Rattle.std.specs.Prelude.{◌≡◌, IfOk};
-ghost use Rattle.arena_program.specs.Told.{told_text};
+ghost use Rattle.arena_program.specs.Rendering.{rendered_text};
 
 use arena_chunks::OutOfMemory;
 use lint_reports::{FileReport, put_report};
@@ -9,7 +9,7 @@ use script_rules::Outcome;
 use std::alloc::Global;
 
 /// An outcome that has a text, by the number of its piece of work.
-pub trait Tells {
+pub trait Render {
     ghost use Rattle.std.specs.Prelude.{ℕ, List, ◌≡◌, ◌++◌, OnOk};
 
     // The text of the outcome of the piece of this number.
@@ -20,8 +20,8 @@ pub trait Tells {
         ensures { OnOk result (out.new.items ≡ out.old.items ++ text i self.now) };
 }
 
-impl Tells for Outcome {
-    ghost use Rattle.arena_program.specs.Told.{script_text};
+impl Render for Outcome {
+    ghost use Rattle.arena_program.specs.Rendering.{script_text};
 
     ghost text = { script_text };
 
@@ -30,7 +30,7 @@ impl Tells for Outcome {
     }
 }
 
-impl Tells for FileReport {
+impl Render for FileReport {
     ghost use Rattle.lint_reports.specs.Reports.{report_text};
 
     ghost text = { report_text };
@@ -40,27 +40,27 @@ impl Tells for FileReport {
     }
 }
 
-/// What a worker leaves of an outcome.
+/// An outcome that a worker has rendered, or couldn't.
 #[derive(Drop)]
-pub enum Told<O> {
+pub enum Rendered<O> {
     /// Its text, and whether it says that an arena refused.
     Text { bytes: Vec<u8>, refused: bool },
     /// The outcome, where the piece wasn't begun or there was no memory for the text.
-    Untold(O),
+    Unrendered(O),
 }
 
-impl<O: Tells + Drop> Told<O> {
+impl<O: Render + Drop> Rendered<O> {
     /// Returns the text of the outcome of the piece of this number.
     ///
     /// # Errors
     ///
     /// Out of memory for a text that no worker made.
     pub fn into_text(self, alloc: Global, i: u64) -> Result<Vec<u8>, OutOfMemory>
-        ensures { IfOk result (λ text. text.items ≡ told_text O.text i self) }
+        ensures { IfOk result (λ text. text.items ≡ rendered_text O.text i self) }
     {
         match self {
-            Told::Text { bytes, .. } => Ok(bytes),
-            Told::Untold(outcome) => {
+            Rendered::Text { bytes, .. } => Ok(bytes),
+            Rendered::Unrendered(outcome) => {
                 let mut text = Vec::new(alloc);
                 outcome.put(&mut text, i)?;
                 Ok(text)
