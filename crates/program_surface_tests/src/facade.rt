@@ -5,7 +5,10 @@ ghost use Rattle.arena.specs.Values.{IsBoxIn, box_value};
 ghost use Rattle.arena.specs.Vecs.{IsVecIn, vec_list};
 
 use arena::laws::items::frame_law;
-use arena::{Allocator, Box, ChunkSource, Grown, Item, Vec};
+use arena::{
+    Allocator, Ast, Box, ByParts, ChunkSource, Grown, Item, Linked, Listed, Parts, Vec,
+    list_operands,
+};
 
 /// Appends a value to a vector, next to a box.
 pub fn push_beside<T: Item, U: Item, C: ChunkSource>(
@@ -25,4 +28,20 @@ pub fn push_beside<T: Item, U: Item, C: ChunkSource>(
 {
     frame_law::<Box<U>>();
     vec.push(a, value)
+}
+
+fn trees<T: Parts + Linked, C: ChunkSource>(
+    a: &mut Allocator<C>,
+    tree: &mut Listed<ByParts<T>>,
+    node: ByParts<T>,
+    operands: &[u32],
+) {
+    return;
+    let _: Ast<ByParts<T>> = Ast::new_in();
+    let _: Grown<u32> = tree.first.add(a, node);
+    let _: Grown<(u32, u32)> = list_operands(a, tree, operands);
+}
+
+fn parts<T: Parts>(form: T::Form) -> T::Form {
+    T::whole(form).parts()
 }
