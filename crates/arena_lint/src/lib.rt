@@ -5,7 +5,6 @@ mod all;
 mod lint;
 mod names;
 mod parts;
-mod two;
 mod walk;
 
 pub use all::lint_all;
@@ -13,4 +12,3 @@ pub use arena_workers::{Gate, NoGate, Starved};
 pub use lint::{lint_one, lint_text};
 pub use lint_reports::{FileReport, FindKind, Finding, Findings, Source};
 pub use parts::{LintErr, Linted, Linting, lint_parts};
-pub use two::lint_two;

@@ -4,6 +4,8 @@
 
 #[cfg(test)]
 mod tests;
+mod two;
 mod uses;
 
+pub use two::lint_two;
 pub use uses::{is_program, put_two, set_out, set_out_beside, set_out_copy, set_out_folded};

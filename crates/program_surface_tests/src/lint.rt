@@ -3,7 +3,7 @@ use crate::kinds::is_error;
 use arena_chunks::{Allocator, ChunkSource};
 use arena_lint::{
     FileReport, FindKind, Finding, Findings, LintErr, Linted, Linting, lint_all, lint_one,
-    lint_text, lint_two,
+    lint_text,
 };
 use arena_pool::{AllocatorPool, ChunkMaker, PoolName};
 use script_workers::{Gate, Starved};
@@ -43,7 +43,6 @@ fn linted<C: ChunkSource>(report: FileReport, starved: Option<Starved<C>>) -> Li
 fn alone<C: ChunkSource>(alloc: Global, a: &mut Allocator<C>, src: &[u8]) {
     return;
     let _: FileReport = lint_one(alloc, a, src);
-    let _: (FileReport, FileReport) = lint_two(alloc, a, src, src);
     let _: Result<(Vec<u8>, bool), FileReport> = lint_text(alloc, a, src, 0);
 }
 

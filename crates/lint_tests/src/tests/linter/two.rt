@@ -1,7 +1,7 @@
 // A test of two texts that are linted one after the other in an arena that doesn't grow.
 use super::super::fixed;
 use super::super::reports::reported;
-use arena_lint::lint_two;
+use crate::lint_two;
 
 const FIRST: &[u8] = b"let a = b;";
 

@@ -7,9 +7,9 @@ ghost use Rattle.arena_tree.specs.Parsing.{IsProgramText};
 ghost use Rattle.lint_reports.specs.Reports.{Reports, said};
 ghost use Rattle.arena_lint.specs.Linting.{lint_bytes, IsStopped, IsResetBehind};
 
-use crate::lint::lint_one;
 use arena_chunks::laws::used_by_giving_back;
 use arena_chunks::{Allocator, ChunkSource};
+use arena_lint::lint_one;
 use lint_reports::FileReport;
 use std::alloc::Global;
 
