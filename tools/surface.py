@@ -1,5 +1,5 @@
 #!/usr/bin/env python3
-"""Prints each public item of the libraries that neither `surface_tests` nor `program_surface_tests` uses.
+"""Prints each public item of the libraries that `surface_tests` doesn't use.
 
 Items are the names that a library exports, the methods of exported types, and those of exported traits. Only names are
 compared: of a method that several types have, one use is enough. Laws are left out, and `INNER`."""
@@ -10,7 +10,7 @@ import re
 import sys
 
 os.chdir(os.path.dirname(os.path.dirname(os.path.realpath(__file__))))
-TESTS = ["surface_tests", "program_surface_tests"]
+TESTS = "surface_tests"
 
 # What only crates and examples of this repository call or implement: a type stands for its methods, too.
 INNER = """
@@ -75,7 +75,7 @@ def methods(code, types):
 
 
 def main():
-    libraries = sorted({name for test in TESTS for name in uses()[test] if os.path.isdir(f"crates/{name}")})
+    libraries = sorted(name for name in uses()[TESTS] if os.path.isdir(f"crates/{name}"))
     types = {name for library in libraries for name in exported(library)}
     items = collections.defaultdict(set)
     for name in types - set(INNER):
@@ -88,9 +88,8 @@ def main():
             if owner not in INNER and f"{owner}::{name}" not in INNER:
                 items[name].add(f"{owner}::{name}")
     used = collections.Counter()
-    for test in TESTS:
-        for path in glob.glob(f"crates/{test}/src/**/*.rt", recursive=True):
-            used.update(re.findall(r"\w+", text_of(path)))
+    for path in glob.glob(f"crates/{TESTS}/src/**/*.rt", recursive=True):
+        used.update(re.findall(r"\w+", text_of(path)))
     missing = sorted(item for name, owners in items.items() if name not in used for item in owners)
     print("\n".join(missing), end="\n" if missing else "")
     return 1 if missing else 0

@@ -1,9 +1,10 @@
-// Helpers for the tests of pools and workers.
+// Helpers for the tests of pools, scripts and workers.
 ghost use Rattle.std.specs.Prelude.{◌≡◌};
 ghost use Rattle.arena_pool.specs.Names.{IsBlankOf};
 ghost use Rattle.arena_pool.specs.declared.kind.PoolKind.{PoolKind};
 
 mod pools;
+mod scripts;
 mod workers;
 
 use arena_pool::{AllocatorPool, Counts, MemoryMaker, PoolKind, PoolName};

@@ -1,5 +1,5 @@
 use Rattle.std.proofs.Common.{[], ◌∷◌}
-use Rattle.program_surface_tests.proofs.facade.push_beside.Goals as goal
+use Rattle.surface_tests.proofs.facade.push_beside.Goals as goal
 
 pub returns-clause-other : goal.returns-clause-other
 returns-clause-other g c =

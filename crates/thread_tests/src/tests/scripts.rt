@@ -4,6 +4,7 @@ mod engine;
 mod lines;
 mod tables;
 
+use super::holds;
 use plain_scripts::PlainScripts;
 use script_lines::{parse_scripts, put_outcome};
 use script_rules::{Ended, Outcome, Replies, Script};
@@ -11,10 +12,6 @@ use std::alloc::Global;
 use std::process::Abort;
 use std::test::Fail;
 use tables::{TABLES, Table};
-
-fn holds(rt: &impl Abort, is_so: bool, row: &str) {
-    assert!(rt; is_so, "{row:?}");
-}
 
 fn script_of(alloc: Global, text: &str) -> Result<Script, Fail> {
     let mut scripts = parse_scripts(alloc, text.as_bytes())?;

@@ -1,5 +1,5 @@
 // Tests of inputs with a line that isn't one of scripts, and of the text of outcomes.
-use super::holds;
+use crate::tests::holds;
 use script_lines::{LinesErr, parse_scripts, put_outcomes};
 use script_rules::{Ended, Outcome, Replies, ScriptReply};
 use std::test::Fail;

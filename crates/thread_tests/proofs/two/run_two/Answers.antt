@@ -3,7 +3,7 @@ use Rattle.arena_rules.specs.State.{State, allocated_bytes}
 use Rattle.arena_rules.specs.Moves.{reset}
 use Rattle.arena_chunks.specs.Memory.{Memory}
 use Rattle.arena_script.specs.Running.{IsRun}
-use Rattle.script_tests.proofs.two.run_two.Goals as goal
+use Rattle.thread_tests.proofs.two.run_two.Goals as goal
 
 pub returns-clause-twice : goal.returns-clause-twice
 returns-clause-twice g c = λ equal other another.
@@ -15,7 +15,7 @@ returns-clause-twice g c = λ equal other another.
     let states : next.memory.state ≡ reset mid.memory.state = ap (λ (m : Memory). m.state) c.reset.ensures.memory in
     let still = kind.is_growing ∙ c.requires.still in
     let region = ap (λ (s : State). allocated_bytes s) states
-    ∙ c.used_by_giving_back.ensures.reset_keeps mid.memory.state c.min_align.ensures.valid still ∙ kind.allocated c.requires.still in
+    ∙ c.used_by_giving_back.ensures.reset_keeps mid.memory.state c.known.ensures.valid still ∙ kind.allocated c.requires.still in
     (c.fixed_outcome.ensures (allocated_bytes c.args.a.now.memory.state) c.args.first.now c.args.a.now mid next two.new.a one.result two.result
     (record { still = c.requires.still; region = refl })
     (record { still = ap (λ (s : State). s.is_growing) states ∙ still; region = region }) one.ensures

@@ -34,8 +34,8 @@ pub fn run_two<C: ChunkSource>(
     fixed_outcome();
     used_by_giving_back();
     let one = run_script(alloc, a, first);
-    // So the arena is known to be valid, and a reset keeps its bytes.
-    let _ = a.min_align();
+    // Provides that the arena is valid, so that a reset keeps its bytes.
+    a.known();
     a.reset();
     let two = run_script(alloc, a, second);
     (one, two)

@@ -1,5 +1,5 @@
 // Tests of texts that are cut before a line `script`.
-use super::holds;
+use crate::tests::holds;
 use script_lines::{LinesErr, cut_place, join_parts, parse_scripts};
 use script_rules::Script;
 use std::alloc::Global;

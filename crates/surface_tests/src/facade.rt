@@ -45,3 +45,8 @@ fn trees<T: Parts + Linked, C: ChunkSource>(
 fn parts<T: Parts>(form: T::Form) -> T::Form {
     T::whole(form).parts()
 }
+
+fn lent<'a, K: ChunkMaker, L: PoolName, R: Wait>(pool: &'a AllocatorPool<K, L>, rt: &R) {
+    return;
+    let _: Result<AllocatorGuard<'a, K, L>, OutOfMemory> = pool.get(rt);
+}
