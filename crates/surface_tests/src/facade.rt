@@ -6,9 +6,12 @@ ghost use Rattle.arena.specs.Vecs.{IsVecIn, vec_list};
 
 use arena::laws::items::frame_law;
 use arena::{
-    Allocator, Ast, Box, ByParts, ChunkSource, Grown, Item, Linked, Listed, Parts, Vec,
-    list_operands,
+    Allocator, Ast, Box, ByParts, ChunkSource, Grown, Item, Linked, Listed, OutOfMemory, Parts,
+    Vec, list_operands,
 };
+use arena_threads::pools::{ChunkMaker, PoolName};
+use arena_threads::{AllocatorGuard, AllocatorPool};
+use std::sync::Wait;
 
 /// Appends a value to a vector, next to a box.
 pub fn push_beside<T: Item, U: Item, C: ChunkSource>(
