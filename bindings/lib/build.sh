@@ -1,7 +1,8 @@
 #!/bin/bash
 # build.sh [CRATE..]: proves and builds the static libraries of these crates, or of both, for each target, and writes them to
 # bindings/lib/TARGET, the toolchain's verdicts to VERDICT, and checksums to SHA256SUMS.
-# build.sh --check [CRATE..]: does the same in a folder of its own, and compares. Prints nothing if all is the same.
+# build.sh --check [CRATE..]: does the same in a folder of its own, and compares. Prints nothing if all is the same. Skipped with
+# another kit, which may compile other bytes.
 # build.sh --bitcode FILE CRATE: writes what the toolchain gives clang for x86-64, to compile it otherwise.
 # The libraries below a crate are those that `rt ci` or `rt check` left in crates/*/out. JOBS is how many functions are proved
 # at a time, KEPT a folder that keeps what was proved for the next run.
@@ -52,15 +53,18 @@ E
 fi
 
 to=$here
-[ "${1-}" != --check ] || { to=$work && shift; }
+if [ "${1-}" = --check ]; then
+    to=$work && shift
+    grep -qxF "kit: $(rt version)" "$here/VERDICT" || { echo "skipped: bindings/lib was built by another kit" && exit; }
+fi
 [ $# -gt 0 ] || set -- arena_cursor arena_oracle
 for crate; do
     for target in aarch64-unknown-linux-gnu x86_64-unknown-linux-gnu; do made "$crate" "$target" "$to"; done
 done
 cd "$here"
 if [ "$to" = "$here" ]; then
-    for crate; do sed -i "/^$crate /d" VERDICT; done
-    sort -o VERDICT VERDICT "$work/VERDICT"
+    for crate; do sed -i "/^$crate /d; /^kit: /d" VERDICT; done
+    echo "kit: $(rt version)" | sort -o VERDICT VERDICT "$work/VERDICT" -
     sha256sum -- */*.a >SHA256SUMS
     exit
 fi
