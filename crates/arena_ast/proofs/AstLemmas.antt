@@ -1,7 +1,7 @@
 -- What calls on a tree's nodes leave of its names, and the other way round.
 use Rattle.std.proofs.lemmas.Bool.Decides.{nat_tests}
 use Rattle.std.proofs.Common.{◌≡◌, ℕ, zero, suc, List, [], ◌∷◌, ◌++◌, length, Some, refl, sym, ap, subst, arith, Result, slice_get, ◌⊎◌, inl, inr}
-use Rattle.std.specs.Prelude.{IfErr, OnOk}
+use Rattle.std.specs.Prelude.{Ok, Err, IfOk, IfErr, OnOk}
 use Rattle.std.specs.Result.{IsErr, IsErrAnd}
 use Rattle.std.proofs.lemmas.Option.{none-some, same_Some}
 use Rattle.arena_chunks.specs.Frame.{AreAllApart, Frame}
@@ -43,6 +43,12 @@ module _ {T : Type 0} (item : Ghosts T) where
       → vec_list item new.memory tree.nodes ≡ vec_list item old.memory tree.nodes
       → OnOk result (rows_in item new.memory (record { nodes = tree.nodes; names = after }) ≡ with_name (rows_in item old.memory tree) name)
   named_rows old new tree after name result interns same = grind (arith, nat_tests)
+
+-- an interner's answer
+pub name_interned : (old new : View) (names after : Symbols) (name : List ℕ) (result : Result ℕ AllocError)
+    → Interns old new names after name result → IfOk result (λ n. Interns old new names after name (Ok n))
+name_interned old new names after name (Ok n) interns = interns
+name_interned old new names after name (Err e) interns = tt
 
 -- an interner's refusal
 pub name_refused : {T : Type 0} (old new : View) (tree : Ast T) (after : Symbols) (name : List ℕ) (result : Result ℕ AllocError)

@@ -1,5 +1,5 @@
 -- Which nodes and names the arena has of a tree, and why it refuses one more.
-use Rattle.std.specs.Prelude.{◌≡◌, ℕ, ◌+◌, ◌-◌, ◌^◌, ◌≤◌, ◌⊎◌, List, [], ◌∷◌, ◌++◌, length, Err}
+use Rattle.std.specs.Prelude.{◌≡◌, ℕ, ◌+◌, ◌-◌, ◌^◌, ◌≤◌, ◌⊎◌, List, [], ◌∷◌, ◌++◌, length, Result, Err}
 use Rattle.arena_chunks.specs.Memory.{Memory}
 use Rattle.arena_chunks.specs.Source.{View}
 use Rattle.arena_items.specs.declared.item.Item.{Ghosts}
@@ -38,15 +38,19 @@ last_of rows = length rows.nodes - 1
 abbrev pub rows_in : {T : Type 0} → Ghosts T → Memory → Ast T → Rows T
 rows_in item memory tree = record { names = names_in memory tree.names; nodes = vec_list item memory tree.nodes }
 
--- ---- Refusals: the record of the call that was refused says when that may be, and with which error
+-- ---- What is asked for, when that is refused, and with which error
 
--- of this node, the next one
-abbrev pub NodeRefused : {T : Type 0} → Ghosts T → View → View → Ast T → T → AllocError → Type 0
-NodeRefused {T} item old new tree node error = (after : Vec T) × Grows {X = Unit {0}} item old new tree.nodes
+-- A node is pushed to the list of nodes, which is this one then.
+abbrev pub Adds : {T : Type 0} → Ghosts T → View → View → Ast T → T → Vec T → Result (Unit {0}) AllocError → Type 0
+Adds item old new tree node after result = Grows item old new tree.nodes
     (amortised_growth item.SIZE tree.nodes.raw.cap (tree.nodes.raw.len + 1)) (vec_list item old.memory tree.nodes ++ node ∷ [])
-    after (Err error)
+    after result
 
--- of this name, or it is too long
+-- this node, the next one, is refused
+abbrev pub NodeRefused : {T : Type 0} → Ghosts T → View → View → Ast T → T → AllocError → Type 0
+NodeRefused {T} item old new tree node error = (after : Vec T) × Adds item old new tree node after (Err error)
+
+-- this name is, or it is too long
 abbrev pub NameRefused : {T : Type 0} → View → View → Ast T → List ℕ → AllocError → Type 0
 NameRefused old new tree name error = ((after : Symbols) × Interns old new tree.names after name (Err error))
     ⊎ ((error ≡ CapacityOverflow) × (2 ^ 32 ≤ length name) × (new ≡ old))

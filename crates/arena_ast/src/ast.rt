@@ -1,12 +1,13 @@
 // Trees: their nodes and their names, and what is added to them.
-ghost use Rattle.std.specs.Prelude.{◌≡◌, ℕ, ◌+◌, ◌^◌, ◌<◌, ◌≤◌, Some, IfOk, IfErr, OnOk, slice_get};
+ghost use Rattle.std.specs.Prelude.{◌≡◌, ℕ, ◌+◌, ◌^◌, ◌<◌, ◌≤◌, Some, Ok, IfOk, IfErr, OnOk, slice_get};
 ghost use Rattle.arena_chunks.specs.Memory.{Memory};
 ghost use Rattle.arena_items.specs.Beside.{IsNew, Moves};
 ghost use Rattle.arena_vec.specs.Vecs.{vec_list};
 ghost use Rattle.arena_symbols.specs.Interner.{number_of};
+ghost use Rattle.arena_symbols.specs.Interning.{Interns};
 ghost use Rattle.arena_symbols.specs.Names.{names_in};
 ghost use Rattle.arena_ast.specs.Asts.{AreNodesIn, IsAstIn, KeepsCount};
-ghost use Rattle.arena_ast.specs.Rows.{rows_in, with_node, with_name, no_rows, NodeRefused, NameRefused};
+ghost use Rattle.arena_ast.specs.Rows.{rows_in, with_node, with_name, no_rows, Adds, NodeRefused, NameRefused};
 
 use crate::linked::Linked;
 use arena_chunks::{Allocator, ChunkSource};
@@ -52,6 +53,8 @@ impl<T: Item + Linked> Ast<T> {
         ensures len { OnOk result (self.new.nodes.raw.len ≡ self.old.nodes.raw.len + 1) }
         ensures rows { OnOk result (rows_in T.Item a.new.memory self.new
             ≡ with_node (rows_in T.Item a.old.memory self.old) node) }
+        ensures names { self.new.names ≡ self.old.names }
+        ensures took { OnOk result (Adds T.Item a.old a.new self.old node self.new.nodes (Ok tt)) }
         ensures refused { IfErr result (NodeRefused T.Item a.old a.new self.old node) }
     {
         frame_law::<Symbols>();
@@ -74,6 +77,7 @@ impl<T: Item + Linked> Ast<T> {
         ensures rows { OnOk result (rows_in T.Item a.new.memory self.new
             ≡ with_name (rows_in T.Item a.old.memory self.old) name.now) }
         ensures number { IfOk result (λ n. number_of (names_in a.new.memory self.new.names) name.now ≡ Some n) }
+        ensures took { IfOk result (λ n. Interns a.old a.new self.old.names self.new.names name.now (Ok n)) }
         ensures refused { IfErr result (NameRefused a.old a.new self.old name.now) }
     {
         if name.len() >= 1 << 32 {

@@ -1,6 +1,8 @@
 // Nodes with any number of operands: ranges of a list beside the tree.
-ghost use Rattle.std.specs.Prelude.{◌≡◌, ◌++◌, IfOk, OnErr, length, slice_range};
+ghost use Rattle.std.specs.Prelude.{◌≡◌, ◌+◌, ◌++◌, IfOk, length, slice_range};
 ghost use Rattle.arena_items.specs.Beside.{Moves};
+ghost use Rattle.raw_vec.specs.Growth.{amortised_growth};
+ghost use Rattle.arena_vec.specs.Changes.{Grows};
 ghost use Rattle.arena_vec.specs.Vecs.{vec_list};
 
 use crate::ast::Ast;
@@ -27,11 +29,13 @@ pub fn list_operands<T: Item + Linked, C: ChunkSource>(
     requires { ⟦<Listed<T> as InArena>⟧.is_held a.old.memory tree.old }
     ensures moves { Moves ⟦<Listed<T> as InArena>⟧ a.old.memory a.new.memory tree.old tree.new }
     ensures tree { tree.new.first ≡ tree.old.first }
-    ensures list { IfOk result (λ _. vec_list ⟦<u32 as Item>⟧ a.new.memory tree.new.second
-        ≡ vec_list ⟦<u32 as Item>⟧ a.old.memory tree.old.second ++ operands.now) }
+    ensures grows { let old = tree.old.second in
+        let growth = amortised_growth 4 old.raw.cap (old.raw.len + length operands.now) in
+        let list = vec_list ⟦<u32 as Item>⟧ a.old.memory old ++ operands.now in
+        Grows ⟦<u32 as Item>⟧ a.old a.new old growth list tree.new.second result }
+    ensures ends { IfOk result (λ r. (r.0 ≡ tree.old.second.raw.len) × (r.1 ≡ tree.new.second.raw.len)) }
     ensures range { IfOk result (λ r.
         slice_range (vec_list ⟦<u32 as Item>⟧ a.new.memory tree.new.second) r.0 r.1 ≡ operands.now) }
-    ensures refused { OnErr result (tree.new ≡ tree.old) }
 {
     part_law::<Ast<T>, Vec<u32>>();
     let from = tree.second.len();

@@ -1,4 +1,4 @@
-use Rattle.std.proofs.Common.{[], ◌∷◌, arith, length-append}
+use Rattle.std.proofs.Common.{refl, [], ◌∷◌, arith, length-append}
 use Rattle.arena_vec.specs.Vecs.{vec_list}
 use Rattle.arena_ast.specs.Rows.{NodeRefused}
 use Rattle.arena_ast.proofs.CountLemmas.{list_counts}
@@ -32,6 +32,8 @@ returns g c =
       index = c.len-index.ensures;
       len = omega (arith, push.len, length-append list (c.args.node ∷ []), list_length g.T.Item c.args.a.now.memory tree.nodes);
       rows = λ i. record { names = stays.means i; nodes = push.list_is i };
+      names = refl;
+      took = push;
       refused = tt;
     }
 

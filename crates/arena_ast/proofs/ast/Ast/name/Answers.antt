@@ -2,7 +2,7 @@ use Rattle.std.proofs.Common.{refl, [], ◌∷◌}
 use Rattle.arena_symbols.specs.Names.{names_footprint}
 use Rattle.arena_symbols.proofs.Layers.{all_turned}
 use Rattle.arena_ast.proofs.CountLemmas.{interned_counts}
-use Rattle.arena_ast.proofs.AstLemmas.{names_moved, name_refused, named_rows}
+use Rattle.arena_ast.proofs.AstLemmas.{names_moved, name_interned, name_refused, named_rows}
 use Rattle.arena_ast.proofs.ast.Ast.name.Goals as goal
 
 pub returns : goal.returns
@@ -18,5 +18,6 @@ returns g c =
       nodes = refl;
       rows = named_rows g.T.Item c.args.a.now c.intern.new.a tree c.intern.new.self c.args.name.now c.intern.result interns stays.means;
       number = interns.number;
+      took = name_interned c.args.a.now c.intern.new.a tree.names c.intern.new.self c.args.name.now c.intern.result interns;
       refused = name_refused c.args.a.now c.intern.new.a tree c.intern.new.self c.args.name.now c.intern.result interns;
     }
