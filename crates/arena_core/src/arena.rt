@@ -91,7 +91,7 @@ impl<const MIN_ALIGN: usize> Arena<MIN_ALIGN> {
         ensures state { result ≡ self.now.state.min_align }
         ensures valid { IsValid self.now.state }
     {
-        // The invariant is known only once a field is used.
+        // For the proof: a use of a field makes the invariant known.
         let _ = &self.newest;
         MIN_ALIGN as u64
     }

@@ -22,7 +22,8 @@ pub trait Item: Copy {
 
     ghost ALIGN: { ℕ };
 
-    /// Does nothing at run time: for the proof, a variable of the type holds one of its values.
+    /// Does nothing at run time: for the proof, a variable of the type holds one of its values. An implementation reads
+    /// each part, so that its bounds are known.
     fn known(&self)
         ensures { is_value self.now };
 

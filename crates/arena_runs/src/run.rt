@@ -48,7 +48,7 @@ impl Run {
         ensures { (source : Source) → IfOk result (λ run. IsRunning
             (view arena.now source) (view arena.now source) run.names run.marks [] []) }
     {
-        // By the contract of this call the state is valid.
+        // For the proof: the arena's state is valid.
         arena.known();
         Ok(Run {
             alloc,
@@ -128,7 +128,7 @@ pub fn run_calls_into<const M: usize, C: ChunkSource, R: Replies>(
         (view arena.old (C.source chunks.old)) (view arena.new (C.source chunks.new)) calls.now
         (TakesMore R.has_taken replies.old replies.new)) }
 {
-    // A run begins in a valid state, by the contract of this call.
+    // For the proof: the arena's state is valid.
     arena.known();
     let Ok(mut run) = Run::new(alloc, arena) else {
         return Err(Stopped::OutOfMemory { done: 0 });

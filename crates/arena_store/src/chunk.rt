@@ -57,7 +57,7 @@ impl StoredChunk {
         ensures chunk { result ≡ record { base = base; cursor = base + length bytes.items; bytes = bytes } }
         ensures ready { floor_in result ≤ result.cursor }
     {
-        // This call gives the fact that the ready bytes of a region begin within it.
+        // For the proof: the ready bytes of a region begin within it.
         let _ = bytes.low();
         let cursor = base + bytes.len() as u64;
         StoredChunk {

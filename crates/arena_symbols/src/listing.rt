@@ -27,7 +27,7 @@ pub(crate) fn put_listed<K: ArenaKey, T: Item, C: ChunkSource>(
     insert_law::<K, u32, FxHasher>();
     growth_costs();
     vector_costs::<T, ()>();
-    // This shows the proof that the least alignment is 1.
+    // For the proof: the least alignment is 1.
     a.known();
     let at = list.len();
     list.push(a, value)?;

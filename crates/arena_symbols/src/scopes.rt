@@ -108,7 +108,7 @@ impl Scopes {
     {
         growth_costs();
         vector_costs::<u32, ()>();
-        // This shows the proof that the least alignment is 1.
+        // For the proof: the least alignment is 1.
         a.known();
         if self.starts.len() >= MOST_SCOPES - 1 {
             return Err(AllocError::CapacityOverflow);
@@ -169,7 +169,7 @@ impl Scopes {
         requires { IsTableIn entry_item a.old.memory self.old }
         ensures { Defines entry_item a.old a.new self.old self.new id value result }
     {
-        // This shows the proof that the least alignment is 1.
+        // For the proof: the least alignment is 1.
         a.known();
         let content = id.to_le_bytes();
         let (hidden, look) = self.newest.search(a, &content);

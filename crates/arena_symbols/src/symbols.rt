@@ -92,7 +92,7 @@ impl Symbols {
         ensures { Interns a.old a.new self.old self.new text.now result }
     {
         texts_law::<Str, u32, FxHasher>();
-        // This shows the proof that the least alignment is 1.
+        // For the proof: the least alignment is 1.
         a.known();
         let (known, look) = self.search(a, text);
         if let Some(id) = known {

@@ -40,7 +40,7 @@ pub fn place_then_grow<C: ChunkSource>(
     starved_together();
     used_by_placing();
     used_by_resizing();
-    // Shows the prover that the least alignment is 1.
+    // For the proof: the least alignment is 1.
     a.known();
     let block = a.alloc_layout(small)?;
     let grown = a.grow(block, large)?;

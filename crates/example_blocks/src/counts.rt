@@ -25,7 +25,7 @@ pub fn give_back<C: ChunkSource>(a: &mut Allocator<C>, block: Block)
     ensures doubling { (z : ℕ)
         → IsDoubling z a.old.memory.state.chunks → IsDoubling z a.new.memory.state.chunks }
 {
-    // Shows the prover that the least alignment is 1.
+    // For the proof: the least alignment is 1.
     a.known();
     doubling();
     given_back();

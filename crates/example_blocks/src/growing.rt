@@ -24,7 +24,7 @@ pub fn begin_row<C: ChunkSource>(a: &mut Allocator<C>, n: u32, cap: u64) -> Grow
 {
     room_law::<Block>();
     costs_law::<Block, Block>();
-    // Shows the prover that the least alignment is 1.
+    // For the proof: the least alignment is 1.
     a.known();
     let Some(layout) = Layout::array(cap, 32, 8) else {
         return Err(AllocError::CapacityOverflow);

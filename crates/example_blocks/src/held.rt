@@ -16,7 +16,7 @@ pub fn end_of<C: ChunkSource>(a: &Allocator<C>, block: Block) -> u64
     ensures { result ≡ block.addr + block.size }
 {
     readable();
-    // Shows the prover that the arena's state is valid.
+    // For the proof: the arena's state is valid.
     a.known();
     block.addr + block.size
 }

@@ -18,7 +18,7 @@ pub fn size_of_both<C: ChunkSource>(a: &Allocator<C>, one: Block, other: Block) 
     ensures within { result ≤ used_bytes a.now.memory.state }
 {
     readable();
-    // Shows the prover that the number of bytes in use fits in 64 bits.
+    // For the proof: the number of bytes in use fits in 64 bits.
     let _ = a.used_bytes();
     one.size + other.size
 }

@@ -32,6 +32,7 @@ pub fn take_front<T: Item, C: ChunkSource>(a: &mut Allocator<C>, vec: &mut Vec<T
     ensures rest { let list = drop (length out.old) (vec_list T.Item a.old.memory vec.old) in
         Becomes T.Item a.old a.new vec.old list vec.new }
 {
+    // For the proof: the length fits in 32 bits.
     let _len = vec.len();
     let mut gone = vec.drain(a, 0, out.len() as u32);
     for place in out.iter_mut() {

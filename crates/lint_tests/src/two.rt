@@ -41,7 +41,7 @@ pub fn lint_two<C: ChunkSource>(
 {
     used_by_giving_back();
     let one = lint_one(alloc, a, first);
-    // Provides that the arena is valid, so that a reset keeps its bytes.
+    // For the proof: the arena's state is valid, so that a reset keeps its bytes.
     a.known();
     a.reset();
     let two = lint_one(alloc, a, second);

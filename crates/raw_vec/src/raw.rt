@@ -350,7 +350,7 @@ impl<T: Item> RawVec<T> {
             return;
         }
         if amount == 0 {
-            // For the proof: the arena's least alignment is 1.
+            // For the proof: the least alignment is 1.
             a.known();
             a.deallocate(self.block);
             *self = RawVec::new_in();

@@ -34,7 +34,7 @@ pub fn run_two<C: ChunkSource>(
     fixed_outcome();
     used_by_giving_back();
     let one = run_script(alloc, a, first);
-    // Provides that the arena is valid, so that a reset keeps its bytes.
+    // For the proof: the arena's state is valid, so that a reset keeps its bytes.
     a.known();
     a.reset();
     let two = run_script(alloc, a, second);

@@ -21,7 +21,7 @@ pub(crate) fn place_block<C: ChunkSource>(a: &mut Allocator<C>, layout: Layout) 
     ensures spends { Spends (Only layout.size layout.align) (layout.size + (layout.align - 1)) 0 0 a.old a.new (error_of result) }
     ensures asks { AsksFor (Fresh layout.size layout.align) None (λ b. b) a.old a.new result }
 {
-    // Provides that the least alignment is 1.
+    // For the proof: the least alignment is 1.
     a.known();
     match a.alloc_layout(layout) {
         Ok(block) => Ok(block),

@@ -121,7 +121,7 @@ pub fn push_node<C: ChunkSource>(
     growth_rule();
     growth_costs();
     vector_costs::<Node, ()>();
-    // Provides that the least alignment is 1.
+    // For the proof: the least alignment is 1.
     a.known();
     push(a, list, node)
 }
@@ -188,7 +188,7 @@ fn longer<C: ChunkSource>(a: &mut Allocator<C>, list: Vec<Node>, nodes: &[Node])
     growth_rule();
     growth_costs();
     vector_costs::<Node, ()>();
-    // Provides that the least alignment is 1.
+    // For the proof: the least alignment is 1.
     a.known();
     let mut all = list;
     match all.extend_from_slice(a, nodes) {

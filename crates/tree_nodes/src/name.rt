@@ -86,7 +86,7 @@ pub fn clone_text<C: ChunkSource, D: ChunkSource>(
         (length (text_bytes from.now.memory text)) 0 0 to.old to.new (error_of result) }
     ensures asks { AsksFor (Fresh (length (text_bytes from.now.memory text)) 1) None (λ s. s.block) to.old to.new result }
 {
-    // Provides that the state is valid, so that the text has a layout.
+    // For the proof: the arena's state is valid, and the text has a layout.
     from.known();
     place_text(to, from.read(text.block))
 }

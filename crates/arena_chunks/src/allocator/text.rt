@@ -113,7 +113,7 @@ impl<C: ChunkSource> Allocator<C> {
         ensures writes { WritesBlock self.old.memory self.new.memory block 0 (flat_map T.text strings.now) }
         ensures source { self.new.source ≡ self.old.source }
     {
-        // This makes it known that the arena's state is valid.
+        // For the proof: the arena's state is valid.
         self.known();
         let mut at = 0;
         for s in strings {

@@ -88,7 +88,7 @@ impl<C: ChunkSource> ArenaItems for Allocator<C> {
             match iter.next() {
                 Some(value) => put_item(self, block, i, value),
                 None => {
-                    // For the proof: the arena's least alignment is 1.
+                    // For the proof: the least alignment is 1.
                     self.known();
                     self.deallocate(block);
                     return Err(ItemErr::TooFew { taken: i });
