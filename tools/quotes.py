@@ -1,8 +1,8 @@
 #!/usr/bin/env python3
 """Compares the code that pages quote with the sources. A unit of a block of the kinds `rust` and `antt` (a line that isn't
 indented, and the indented ones below it) must be in a file of `crates/` or of `bindings/rust`, white space, comments,
-visibility and trailing commas aside; on a page that quotes "the text of the file above it", in a file that its section
-names. `..` marks what is left out. Prints the units that aren't there, and then exits with 1.
+visibility, trailing commas and the bounds `C: ChunkSource` and `D: ChunkSource` aside; on a page that quotes "the text of the file
+above it", in a file that its section names. `..` marks what is left out. Prints the units that aren't there, and then exits with 1.
 
     tools/quotes.py [PAGE..]
 """
@@ -26,6 +26,7 @@ def plain(code):
     code = COMMENT.sub("", code)
     code = re.sub(r"\b(pub|abbrev|unfoldable) ", "", code)
     code = re.sub(r"[\s;]", "", code)
+    code = re.sub(r"<[CD]:ChunkSource(,D:ChunkSource)?,?>|[CD]:ChunkSource,|,[CD]:ChunkSource(?=,?>)", "", code)
     return code.replace(",)", ")").replace(",>", ">")
 
 

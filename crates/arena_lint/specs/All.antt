@@ -14,9 +14,9 @@ use Rattle.lint_reports.specs.declared.report.FileReport.{FileReport}
 use Rattle.lint_reports.specs.declared.report.FileReport.TheVariants.{Checked, Syntax, TooDeep, NumberTooBig, Full, Refused, OutOfMemory}
 use Rattle.arena_lint.specs.Linting.{Lints, lint_bytes}
 
--- The text was linted on an arena of the pool, of which nothing was used before. The report is that of this run: its bytes
--- are in use in this arena, and if it says that a block had no place, this arena had none for it. Of an arena that grew
--- and refused, whose newest chunk ended low before, what is kept is the arena or its source.
+-- The text was linted on an arena of the pool's kind, of which nothing was used before. The report is that of this run:
+-- its bytes are in use in this arena, and if it says that a block had no place, this arena had none for it. Of an arena
+-- that grew and refused, whose newest chunk ended low before, what is kept is the arena or its source.
 pub record IsRunAlone {C : Type 0} (source : C → Source) (kind : PoolKind) (bytes : List ℕ) (linted : Linted C) : Type 0 where
   pub old : View
   pub new : View

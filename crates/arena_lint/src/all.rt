@@ -24,9 +24,9 @@ fn parts_of<'a>(alloc: Global, sources: &'a [Bytes]) -> Result<Vec<Source<'a>>, 
     Ok(parts)
 }
 
-/// Lints texts over a pool, on at most `workers` threads and never more than there are texts. Returns the report of
-/// each text, in order. Each text has an arena of the pool to itself, of which nothing is used, and the promises about
-/// its report don't depend on what is linted before it or at the same time, nor on how many workers there are.
+/// Lints texts over a pool, on threads as `run_all` of `arena_workers` starts them. Returns the report of each text, in
+/// order. Each text has an arena of the pool's kind to itself, of which nothing is used, and the promises about its
+/// report don't depend on what is linted before it or at the same time, nor on how many workers there are.
 ///
 /// - It is `Full` only over a fixed pool whose arenas have fewer than 4096 bytes for each byte of the text and 4096
 ///   more.

@@ -24,8 +24,8 @@ use std::sync::Wait;
 use std::sync::ledger::Blank;
 use std::thread::Threads;
 
-// Lints sources on at most `workers` threads, over a new standard pool. Returns the texts of their reports, in order,
-// which the workers make.
+// Lints sources over a new standard pool, on threads. Returns the texts of their reports, in order, which the workers
+// make.
 fn lint_over_pool<R: Threads + Wait + Sync, K: ChunkMaker + Drop + Send>(
     rt: &R,
     alloc: Global,

@@ -31,9 +31,9 @@ fn parse_part<G: Gate>(
     scripts
 }
 
-/// Reads the scripts that the bytes are the lines of, as `parse_scripts` does, on at most `workers` threads. Each takes
-/// a part of about the same size, which begins with a line `script`, and calls the gate when it begins and when it ends,
-/// with the part's number: as many as the workers before it, and `first`.
+/// Reads the scripts that the bytes are the lines of, as `parse_scripts` does, on threads: at most `workers`, which no
+/// clause says. Each takes a part of about the same size, which begins with a line `script`, and calls the gate when it
+/// begins and when it ends, with the part's number: as many as the workers before it, and `first`.
 #[cycle(halves)]
 pub fn parse_on_workers<R: Threads + Sync, G: Gate + Sync>(
     rt: &R,

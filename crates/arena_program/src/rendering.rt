@@ -114,8 +114,8 @@ where
     }
 }
 
-/// Does each piece of work on at most `workers` threads over the pool, and returns the texts of the outcomes in the
-/// order of the pieces, made by the workers. Waits at the pool's lock.
+/// Does each piece of work over the pool, on threads as `run_all` of `arena_workers` starts them, and returns the texts
+/// of the outcomes in the order of the pieces, made by the workers. Waits at the pool's lock.
 ///
 /// # Errors
 ///

@@ -34,11 +34,12 @@ fn seats(
     Ok(all)
 }
 
-/// Does each piece of work on at most `workers` threads, and never more than there are pieces, and returns the results
-/// in the order of the pieces. Each worker claims pieces one after another, and borrows an arena from the pool for
-/// each:
+/// Does each piece of work on threads, and returns the results in the order of the pieces. At most `workers` threads
+/// are started, and at most one for each piece; no clause bounds them. Each worker claims pieces one after another, and
+/// borrows an arena from the pool for each:
 ///
-/// - An arena that grows and whose newest chunk ends above 2^62 is given up, and another is borrowed.
+/// - No work is done on an arena that grows and whose newest chunk ends above 2^62. It is given up, and another is
+///   borrowed; of that no clause speaks.
 /// - An arena that refused, as its outcome says, is given up, and what shows why is returned with the outcome.
 /// - Every other arena is put back.
 ///

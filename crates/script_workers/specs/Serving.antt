@@ -23,9 +23,9 @@ pub record IsUnserved (outcome : Outcome) : Type 0 where
   pub ended : outcome.ended ≡ ended.OutOfMemory
   pub used : outcome.used ≡ 0
 
--- The script was run on an arena of the pool, of which nothing was used before. The outcome is that of this run: its
--- bytes are in use in this arena, and if it ended refused or full, this arena refused what the next command asked for. Of
--- an arena that grew and refused, whose newest chunk ended low before, what is kept is the arena or its source.
+-- The script was run on an arena of the pool's kind, of which nothing was used before. The outcome is that of this run:
+-- its bytes are in use in this arena, and if it ended refused or full, this arena refused what the next command asked for.
+-- Of an arena that grew and refused, whose newest chunk ended low before, what is kept is the arena or its source.
 pub record IsRunAlone {C : Type 0} (source : C → Source) (kind : PoolKind) (script : List Command) (served : Served Outcome C)
     : Type 0 where
   pub old : View

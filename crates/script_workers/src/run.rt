@@ -29,9 +29,9 @@ impl From<OutOfMemory> for ScriptsErr {
     }
 }
 
-/// Runs scripts over a pool, on at most `workers` threads and never more than there are scripts. Returns what came of
-/// each script, in order. Each script has an arena of the pool to itself, of which nothing is used, and the promises
-/// about its outcome don't depend on what runs before it or at the same time, nor on how many workers there are.
+/// Runs scripts over a pool, on threads as `run_all` of `arena_workers` starts them. Returns what came of each script,
+/// in order. Each script has an arena of the pool's kind to itself, of which nothing is used, and the promises about
+/// its outcome don't depend on what runs before it or at the same time, nor on how many workers there are.
 ///
 /// - It ends `Full` only over a fixed pool whose arenas have fewer bytes than the script costs up to the next command.
 /// - It ends `Refused` only over a standard pool, and then `starved` shows that the arena's source refused, or that the
