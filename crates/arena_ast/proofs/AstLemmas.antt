@@ -7,7 +7,7 @@ use Rattle.std.proofs.lemmas.Option.{none-some, same_Some}
 use Rattle.arena_chunks.specs.Frame.{AreAllApart, Frame}
 use Rattle.arena_chunks.specs.Memory.{Memory}
 use Rattle.arena_chunks.specs.Source.{View}
-use Rattle.arena_chunks.proofs.Layers.{frame_reflexive, frame_weaken, frame_beside, frame_behind}
+use Rattle.arena_chunks.proofs.Layers.{frame_reflexive, frame_weaken, frame_beside, frame_behind, apart_both}
 use Rattle.arena_store.specs.declared.block.Block.{Block}
 use Rattle.arena_items.specs.Beside.{Moves}
 use Rattle.arena_items.specs.Values.{bytes_of}
@@ -127,10 +127,14 @@ module _ {T : Type 0} {item : Ghosts T} {is_after : ℕ → T → Type 0} where
 abbrev range : ℕ → ℕ → Block
 range addr n = record { generation = 0; addr = addr; size = n; align = 1 }
 
--- Blocks that are apart from all others, as empty ones are, need no call.
+-- Blocks that are apart from all others, as empty ones are, may be among those after a call, and need none.
+pub frame_with_none : (old new : Memory) (before after blocks : List Block) → ((others : List Block) → AreAllApart blocks others)
+    → Frame old new before after → Frame old new before (after ++ blocks)
+frame_with_none old new before after blocks apart =
+    frame_weaken old new before before after (after ++ blocks) (λ addr n some is. is)
+    (λ addr n some is rest. apart_both addr n after blocks rest
+    (all_turned blocks (range addr n ∷ []) (apart (range addr n ∷ []))).0)
+
 pub frame_of_none : (memory : Memory) (blocks : List Block) → ((others : List Block) → AreAllApart blocks others)
     → Frame memory memory [] blocks
-frame_of_none memory blocks apart =
-    frame_weaken memory memory [] [] [] blocks (λ addr n some none. none)
-    (λ addr n some none rest. (all_turned blocks (range addr n ∷ []) (apart (range addr n ∷ []))).0)
-    (frame_reflexive memory [])
+frame_of_none memory blocks apart = frame_with_none memory memory [] [] blocks apart (frame_reflexive memory [])

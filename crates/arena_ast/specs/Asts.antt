@@ -3,9 +3,11 @@ use Rattle.std.specs.Prelude.{◌≡◌, ℕ, ◌<◌, ◌≤◌, List, [], ◌�
 use Rattle.std.specs.List.{All}
 use Rattle.arena_chunks.specs.Frame.{AreAllApart}
 use Rattle.arena_chunks.specs.Memory.{Memory}
-use Rattle.arena_chunks.specs.Source.{Source}
+use Rattle.arena_chunks.specs.Source.{Source, View}
 use Rattle.arena_store.specs.declared.block.Block.{Block}
+use Rattle.arena_items.specs.Beside.{IsNew, Moves}
 use Rattle.arena_items.specs.declared.item.Item.{Ghosts}
+use Rattle.arena_items.specs.declared.values.InArena.{Ghosts as Values}
 use Rattle.arena_vec.specs.Vecs.{IsVecIn, vec_list}
 use Rattle.arena_vec.specs.declared.vec.Vec.{Vec}
 use Rattle.arena_symbols.specs.Names.{IsInternerIn, names_footprint}
@@ -38,6 +40,16 @@ ListsMore before after = IfSome after (λ all. IsSomeAnd before (λ some. (added
 pub record KeepsCount (before after : Source) : Type 0 where
   pub refusals : before.refusals ≤ after.refusals
   pub requests : ListsMore before.asked after.asked
+
+-- After a call the value is held, nothing else in the arena was written, and the arena's source forgot nothing.
+pub record Moved {V : Type 0} (kind : Values V) (old new : View) (v w : V) : Type 0 where
+  pub moves : Moves kind old.memory new.memory v w
+  pub counts : KeepsCount old.source new.source
+
+-- A value that was placed since then: what was in use stays, and is apart from its blocks.
+pub record IsBuilt {V : Type 0} (kind : Values V) (old new : View) (v : V) : Type 0 where
+  pub fresh : IsNew kind old.memory new.memory v
+  pub counts : KeepsCount old.source new.source
 
 -- each number is an index below this one
 abbrev pub AreBelow : ℕ → List ℕ → Type 0

@@ -1,12 +1,14 @@
 -- Which nodes and names the arena has of a tree, and why it refuses one more.
-use Rattle.std.specs.Prelude.{◌≡◌, ℕ, ◌+◌, ◌-◌, ◌^◌, ◌≤◌, ◌⊎◌, List, [], ◌∷◌, ◌++◌, length, Result, Err}
+use Rattle.std.specs.Prelude.{◌≡◌, ℕ, ◌+◌, ◌-◌, ◌^◌, ◌≤◌, ◌⊎◌, List, [], ◌∷◌, ◌++◌, length, Some, Result, Err}
 use Rattle.arena_chunks.specs.Memory.{Memory}
 use Rattle.arena_chunks.specs.Source.{View}
+use Rattle.arena_store.specs.declared.block.Block.{Block}
 use Rattle.arena_items.specs.declared.item.Item.{Ghosts}
 use Rattle.arena_items.specs.declared.room.AllocError.{AllocError}
 use Rattle.arena_items.specs.declared.room.AllocError.TheVariants.{CapacityOverflow}
 use Rattle.raw_vec.specs.Growth.{amortised_growth}
 use Rattle.arena_vec.specs.Changes.{Grows}
+use Rattle.arena_clone.specs.Asks.{AsksFor, vector_ask}
 use Rattle.arena_vec.specs.Vecs.{vec_list}
 use Rattle.arena_vec.specs.declared.vec.Vec.{Vec}
 use Rattle.arena_symbols.specs.Interner.{with_text}
@@ -54,3 +56,8 @@ NodeRefused {T} item old new tree node error = (after : Vec T) × Adds item old 
 abbrev pub NameRefused : {T : Type 0} → View → View → Ast T → List ℕ → AllocError → Type 0
 NameRefused old new tree name error = ((after : Symbols) × Interns old new tree.names after name (Err error))
     ⊎ ((error ≡ CapacityOverflow) × (2 ^ 32 ≤ length name) × (new ≡ old))
+
+-- of the one block with place for all nodes, for a copy of them
+abbrev pub CopyRefused : {T : Type 0} → Ghosts T → View → View → Vec T → AllocError → Type 0
+CopyRefused item old new nodes error =
+    (blocks : List Block) × AsksFor (vector_ask item.SIZE item.ALIGN nodes.raw.len ∷ []) old new blocks (Some error)

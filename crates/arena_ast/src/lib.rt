@@ -4,13 +4,17 @@
 
 mod ast;
 mod by_parts;
+mod copies;
 pub mod laws;
 mod linked;
 mod lists;
+mod scoped;
 mod values;
 
 pub use arena_items::Beside;
 pub use ast::Ast;
 pub use by_parts::{ByParts, Parts};
+pub use copies::copy_nodes;
 pub use linked::Linked;
 pub use lists::{Listed, list_operands};
+pub use scoped::{Scoped, bind, bound, new_scoped};

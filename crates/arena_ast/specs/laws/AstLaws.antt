@@ -1,15 +1,18 @@
--- A tree in another arena that has the bytes of its blocks.
-use Rattle.std.proofs.Common.{◌≡◌, ℕ, List, [], ◌∷◌, ap, subst}
+-- A tree in another arena that has the bytes of its blocks; and what handles mean, as proofs name it.
+use Rattle.std.proofs.Common.{◌≡◌, ℕ, List, [], ◌∷◌, ◌++◌, ap, subst}
 use Rattle.arena_chunks.specs.Frame.{AreAllApart}
 use Rattle.arena_chunks.specs.Memory.{Memory}
 use Rattle.arena_store.specs.declared.block.Block.{Block}
 use Rattle.arena_items.specs.Footprint.{AreReadable, Agree}
-use Rattle.arena_items.specs.laws.FootprintLaws.{held_again}
+use Rattle.arena_items.specs.laws.FootprintLaws.{held_again, readable_both, readable_parts, agree_parts}
+use Rattle.arena_items.specs.Beside.{AreBeside}
 use Rattle.arena_items.specs.Values.{elements}
 use Rattle.arena_items.specs.declared.item.Item.{Ghosts}
+use Rattle.arena_items.specs.declared.beside.Beside.{Beside}
 use Rattle.arena_items.specs.declared.values.InArena.{Ghosts as Values}
 use Rattle.arena_vec.specs.Vecs.{vec_list}
 use Rattle.arena_symbols.specs.laws.NameLaws.{names_readable, names_same_footprint, names_same, names_held_again}
+pub use Rattle.arena_symbols.specs.contracts.values.ScopesInArena.TheImpl.{ghosts as scopes_kind}
 use Rattle.arena_ast.specs.Asts.{AreOrdered, IsAstIn, ast_blocks}
 use Rattle.arena_ast.specs.Rows.{Rows, rows_in}
 use Rattle.arena_ast.specs.declared.ast.Ast.{Ast}
@@ -54,3 +57,29 @@ module _ {T : Type 0} (item : Ghosts T) (is_after : ℕ → T → Type 0) where
     same_meaning = λ a c t agree. ast_same a c t agree;
     held_again = λ a c t held agree readable. ast_held_again a c t agree held readable;
   }
+
+-- what two values beside each other mean
+abbrev pub beside_kind : {V W : Type 0} → Values V → Values W → Values (Beside V W)
+beside_kind one other = record {
+  Meaning = one.Meaning × other.Meaning;
+  footprint = λ m p. one.footprint m p.first ++ other.footprint m p.second;
+  is_held = λ m p. AreBeside one other m p.first p.second;
+  means = λ m p. (one.means m p.first, other.means m p.second);
+  readable = λ m p held. readable_both m.state (one.footprint m p.first) (other.footprint m p.second)
+      (one.readable m p.first held.first) (other.readable m p.second held.second);
+  same_footprint = λ a c p agree.
+      let parts = agree_parts a c (one.footprint a p.first) (other.footprint a p.second) agree in
+      λ i. one.same_footprint a c p.first parts.0 i ++ other.same_footprint a c p.second parts.1 i;
+  same_meaning = λ a c p agree.
+      let parts = agree_parts a c (one.footprint a p.first) (other.footprint a p.second) agree in
+      λ i. (one.same_meaning a c p.first parts.0 i, other.same_meaning a c p.second parts.1 i);
+  held_again = λ a c p held agree readable.
+      let parts = agree_parts a c (one.footprint a p.first) (other.footprint a p.second) agree in
+      let again = readable_parts c.state (one.footprint a p.first) (other.footprint a p.second) readable in
+      record {
+        first = one.held_again a c p.first held.first parts.0 again.0;
+        second = other.held_again a c p.second held.second parts.1 again.1;
+        apart = subst (λ bs. AreAllApart bs (other.footprint c p.second)) (one.same_footprint a c p.first parts.0)
+            (subst (λ bs. AreAllApart (one.footprint a p.first) bs) (other.same_footprint a c p.second parts.1) held.apart);
+      };
+}
