@@ -60,6 +60,10 @@ pub error_kept : {X E : Type 0} (P : E → Type 0) (error : E) (result : Result 
     → IsErr result × IsErrAnd result (λ f. f ≡ error) → P error → IfErr result P
 error_kept P error result is refused = grind (arith, nat_tests)
 
+pub error_is : {X E : Type 0} (P : E → Type 0) (error : E) (result : Result X E)
+    → IsErr result × IsErrAnd result (λ f. f ≡ error) → P error → IsErrAnd result P
+error_is P error result is refused = grind (arith, nat_tests)
+
 -- ---- Lists of nodes
 
 more_ordered : {T : Type 0} (is_after : ℕ → T → Type 0) (nodes : List T) (node : T) → AreOrdered is_after nodes

@@ -1,8 +1,10 @@
 -- Which nodes and names the arena has of a tree, and why it refuses one more.
-use Rattle.std.specs.Prelude.{◌≡◌, ℕ, ◌+◌, ◌-◌, ◌^◌, ◌≤◌, ◌⊎◌, List, [], ◌∷◌, ◌++◌, length, Some, Result, Err}
+use Rattle.std.specs.Prelude.{◌≡◌, ℕ, ◌+◌, ◌-◌, ◌^◌, ◌≤◌, ◌⊎◌, Bool, Option, List, [], ◌∷◌, ◌++◌, length, Some, Result, Ok, Err}
+use Rattle.std.specs.Result.{IsErrAnd}
 use Rattle.arena_chunks.specs.Memory.{Memory}
 use Rattle.arena_chunks.specs.Source.{View}
 use Rattle.arena_store.specs.declared.block.Block.{Block}
+use Rattle.arena_items.specs.declared.beside.Beside.{Beside}
 use Rattle.arena_items.specs.declared.item.Item.{Ghosts}
 use Rattle.arena_items.specs.declared.room.AllocError.{AllocError}
 use Rattle.arena_items.specs.declared.room.AllocError.TheVariants.{CapacityOverflow}
@@ -14,6 +16,9 @@ use Rattle.arena_vec.specs.declared.vec.Vec.{Vec}
 use Rattle.arena_symbols.specs.Interner.{with_text}
 use Rattle.arena_symbols.specs.Interning.{Interns}
 use Rattle.arena_symbols.specs.Names.{names_in}
+use Rattle.arena_symbols.specs.TableCalls.{Defines}
+use Rattle.arena_symbols.specs.Tables.{entry_item}
+use Rattle.arena_symbols.specs.declared.scopes.Scopes.{Scopes}
 use Rattle.arena_symbols.specs.declared.symbols.Symbols.{Symbols}
 use Rattle.arena_ast.specs.declared.ast.Ast.{Ast}
 
@@ -57,7 +62,18 @@ abbrev pub NameRefused : {T : Type 0} → View → View → Ast T → List ℕ �
 NameRefused old new tree name error = ((after : Symbols) × Interns old new tree.names after name (Err error))
     ⊎ ((error ≡ CapacityOverflow) × (2 ^ 32 ≤ length name) × (new ≡ old))
 
--- of the one block with place for all nodes, for a copy of them
+-- A copy of the nodes asks for one block, with place for all of them; it may be refused.
+abbrev pub CopyAsks : {T : Type 0} → Ghosts T → View → View → Vec T → Option AllocError → Type 0
+CopyAsks item old new nodes end =
+    (blocks : List Block) × AsksFor (vector_ask item.SIZE item.ALIGN nodes.raw.len ∷ []) old new blocks end
+
 abbrev pub CopyRefused : {T : Type 0} → Ghosts T → View → View → Vec T → AllocError → Type 0
-CopyRefused item old new nodes error =
-    (blocks : List Block) × AsksFor (vector_ask item.SIZE item.ALIGN nodes.raw.len ∷ []) old new blocks (Some error)
+CopyRefused item old new nodes error = CopyAsks item old new nodes (Some error)
+
+-- A name is interned, and then its number has a value in the scopes; or the name is refused.
+abbrev pub Binds : {T : Type 0} → View → View → Beside (Ast T) Scopes → Beside (Ast T) Scopes → List ℕ → ℕ
+    → Result Bool AllocError → Type 0
+Binds old new tree after name value result =
+    ((id : ℕ) × (mid : View) × Interns old mid tree.first.names after.first.names name (Ok id)
+    × Defines entry_item mid new tree.second after.second id value result)
+    ⊎ IsErrAnd result (λ e. (after.second ≡ tree.second) × NameRefused old new tree.first name e)

@@ -1,9 +1,9 @@
 // Copies of nodes in another arena.
-ghost use Rattle.std.specs.Prelude.{◌≡◌, ◌^◌, ◌≤◌, [], IfOk, IfErr};
+ghost use Rattle.std.specs.Prelude.{◌≡◌, ◌^◌, ◌≤◌, [], None, IfOk, IfErr, OnOk};
 ghost use Rattle.arena_chunks.specs.Frame.{Frame};
 ghost use Rattle.arena_vec.specs.Vecs.{vec_list};
 ghost use Rattle.arena_ast.specs.Asts.{AreNodesIn};
-ghost use Rattle.arena_ast.specs.Rows.{CopyRefused};
+ghost use Rattle.arena_ast.specs.Rows.{CopyAsks, CopyRefused};
 
 use crate::linked::Linked;
 use arena_chunks::{Allocator, ChunkSource};
@@ -26,6 +26,7 @@ pub fn copy_nodes<T: Item + Linked + Plain, C: ChunkSource, D: ChunkSource>(
     ensures nodes { IfOk result (AreNodesIn T.Item T.is_after to.new.memory) }
     ensures list { IfOk result (λ copy. vec_list T.Item to.new.memory copy
         ≡ vec_list T.Item from.now.memory nodes.now) }
+    ensures took { OnOk result (CopyAsks T.Item to.old to.new nodes.now None) }
     ensures refused { IfErr result (CopyRefused T.Item to.old to.new nodes.now) }
     ensures others { Frame to.old.memory to.new.memory [] [] }
 {

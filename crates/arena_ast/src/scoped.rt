@@ -7,7 +7,7 @@ ghost use Rattle.arena_symbols.specs.Named.{meant};
 ghost use Rattle.arena_symbols.specs.Names.{names_in};
 ghost use Rattle.arena_symbols.specs.Scoping.{is_in_last, with_pair};
 ghost use Rattle.arena_symbols.specs.Tables.{entry_item, scopes_in};
-ghost use Rattle.arena_ast.specs.Rows.{no_rows, rows_in, with_name};
+ghost use Rattle.arena_ast.specs.Rows.{no_rows, rows_in, with_name, Binds};
 
 use crate::ast::Ast;
 use crate::linked::Linked;
@@ -46,6 +46,7 @@ pub fn bind<T: Item + Linked, C: ChunkSource>(
 ) -> Grown<bool>
     requires { ⟦<Scoped<T> as InArena>⟧.is_held a.old.memory tree.old }
     ensures moves { Moves ⟦<Scoped<T> as InArena>⟧ a.old.memory a.new.memory tree.old tree.new }
+    ensures binds { Binds a.old a.new tree.old tree.new name.now value result }
     ensures nodes { tree.new.first.nodes ≡ tree.old.first.nodes }
     ensures rows { OnOk result (rows_in T.Item a.new.memory tree.new.first
         ≡ with_name (rows_in T.Item a.old.memory tree.old.first) name.now) }

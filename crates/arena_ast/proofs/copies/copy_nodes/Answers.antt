@@ -41,6 +41,7 @@ returns g c =
     record {
       nodes = record { held = made.held.0; ordered = subst (AreOrdered g.T.Linked.is_after) (sym list) c.requires.held.ordered };
       list = list;
+      took = grind (arith, nat_tests, only_block);
       refused = tt;
       others = grind (arith, nat_tests, frame_forget);
     }

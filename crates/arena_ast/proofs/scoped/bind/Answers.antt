@@ -1,10 +1,11 @@
 -- A name is given its number, and then the number a value.
-use Rattle.std.proofs.Common.{◌≡◌, ℕ, List, ap, ◌∙◌, Option, Some, Bool, Result, Ok, Err}
+use Rattle.std.proofs.Common.{◌≡◌, ℕ, List, ap, ◌∙◌, Option, Some, Bool, Result, Ok, Err, refl, inl, inr}
 use Rattle.std.specs.Prelude.{IfOk, OnOk, OnErr, if◌then◌else◌, not}
 use Rattle.arena_items.specs.declared.room.AllocError.{AllocError}
 use Rattle.arena_symbols.specs.Interner.{number_of}
 use Rattle.arena_symbols.specs.Scoping.{is_in_last, with_pair}
-use Rattle.arena_ast.specs.Rows.{Rows}
+use Rattle.arena_ast.specs.Rows.{Rows, NameRefused}
+use Rattle.arena_ast.proofs.AstLemmas.{error_is}
 use Rattle.arena_ast.proofs.MoveLemmas.{moves_then}
 use Rattle.arena_ast.proofs.scoped.bind.Goals as goal
 
@@ -56,6 +57,12 @@ returns-in_err-id-clause-kept g c =
     c.args.tree.now.second c.requires moves.held moves.frame in
     on_err c.from_residual.result first.means
 
+pub returns-in_err-id-clause-binds : goal.returns-in_err-id-clause-binds
+returns-in_err-id-clause-binds g c =
+    inr (error_is (λ e. (c.args.tree.now.second ≡ c.args.tree.now.second)
+    × NameRefused c.args.a.now c.name.new.a c.args.tree.now.first c.args.name.now e) _ c.from_residual.result
+    c.from_residual.ensures (refl, c.in_err-id.ensures.refused))
+
 pub returns : goal.returns
 returns g c =
     let name = c.in_ok-id.ensures in
@@ -66,6 +73,7 @@ returns g c =
     c.define.new.self first.beside defined.held defined.frame in
     record {
       moves = moves_then (record { held = first.beside; frame = first.frame }) (record { held = second.beside; frame = second.frame });
+      binds = inl (c.in_ok-id.id, c.name.new.a, name.took, defined);
       nodes = name.nodes;
       rows = on_ok c.define.result (second.means ∙ name.rows);
       scopes = bound_as _ first.means c.define.result c.in_ok-id.id c.args.value _
