@@ -16,5 +16,5 @@ pub use ast::Ast;
 pub use by_parts::{ByParts, Parts};
 pub use copies::copy_nodes;
 pub use linked::Linked;
-pub use lists::{Listed, list_operands};
+pub use lists::{IndexList, Listed, list_operands, new_listed};
 pub use scoped::{Scoped, bind, bound, new_scoped};

@@ -1,9 +1,13 @@
 // Nodes with any number of operands: ranges of a list beside the tree.
-ghost use Rattle.std.specs.Prelude.{◌≡◌, ◌+◌, ◌++◌, IfOk, length, slice_range};
-ghost use Rattle.arena_items.specs.Beside.{Moves};
+ghost use Rattle.std.specs.Prelude.{◌≡◌, ◌+◌, ◌++◌, ℕ, [], IfOk, length, slice_range};
+ghost use Rattle.arena_chunks.specs.Memory.{Memory};
+ghost use Rattle.arena_items.specs.Beside.{IsNew, Moves};
+ghost use Rattle.arena_items.specs.declared.values.InArena.{Ghosts};
 ghost use Rattle.raw_vec.specs.Growth.{amortised_growth};
 ghost use Rattle.arena_vec.specs.Changes.{Grows};
 ghost use Rattle.arena_vec.specs.Vecs.{vec_list};
+ghost use Rattle.arena_vec.specs.declared.vec.Vec.{Vec};
+ghost use Rattle.arena_ast.specs.Rows.{no_rows, rows_in};
 
 use crate::ast::Ast;
 use crate::linked::Linked;
@@ -14,6 +18,28 @@ use arena_vec::Vec;
 
 /// A tree, and a list of operands beside it. A node with any number of operands names a range of the list.
 pub type Listed<T> = Beside<Ast<T>, Vec<u32>>;
+
+/// Gives what a list of indices means a name for proofs: `indices_kind`.
+pub trait IndexList {
+    ghost kind: { Ghosts (Vec ℕ) };
+}
+
+impl IndexList for u32 {
+    ghost kind = { ⟦<Vec<u32> as InArena>⟧ };
+}
+
+/// Returns a tree without nodes or names, and an empty list. Nothing is placed.
+pub fn new_listed<T: Item + Linked>() -> Listed<T>
+    ensures fresh { (memory : Memory) → IsNew ⟦<Listed<T> as InArena>⟧ memory memory result }
+    ensures len { result.first.nodes.raw.len ≡ 0 }
+    ensures rows { (memory : Memory) → rows_in T.Item memory result.first ≡ no_rows }
+    ensures list { (memory : Memory) → vec_list ⟦<u32 as Item>⟧ memory result.second ≡ [] }
+{
+    Beside {
+        first: Ast::new_in(),
+        second: Vec::new_in(),
+    }
+}
 
 /// Appends operands to the list, and returns where they begin and end. Earlier ranges stay as they were
 /// (`laws::range_law`).

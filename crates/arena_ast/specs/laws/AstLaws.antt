@@ -11,8 +11,10 @@ use Rattle.arena_items.specs.declared.item.Item.{Ghosts}
 use Rattle.arena_items.specs.declared.beside.Beside.{Beside}
 use Rattle.arena_items.specs.declared.values.InArena.{Ghosts as Values}
 use Rattle.arena_vec.specs.Vecs.{vec_list}
+use Rattle.arena_vec.specs.declared.vec.Vec.{Vec}
 use Rattle.arena_symbols.specs.laws.NameLaws.{names_readable, names_same_footprint, names_same, names_held_again}
 pub use Rattle.arena_symbols.specs.contracts.values.ScopesInArena.TheImpl.{ghosts as scopes_kind}
+use Rattle.arena_ast.specs.contracts.lists.U32IndexList.TheImpl.{ghosts}
 use Rattle.arena_ast.specs.Asts.{AreOrdered, IsAstIn, ast_blocks}
 use Rattle.arena_ast.specs.Rows.{Rows, rows_in}
 use Rattle.arena_ast.specs.declared.ast.Ast.{Ast}
@@ -83,3 +85,7 @@ beside_kind one other = record {
             (subst (λ bs. AreAllApart (one.footprint a p.first) bs) (other.same_footprint a c p.second parts.1) held.apart);
       };
 }
+
+-- what a list of indices means
+abbrev pub indices_kind : Values (Vec ℕ)
+indices_kind = ghosts.kind
