@@ -1,4 +1,3 @@
 pub mod PlacingLemmas
 pub mod ReadingLemmas
-pub mod TreeLemmas
 pub mod TreeValueLemmas

@@ -1,19 +1,22 @@
 -- Trees that are placed while words are read, and the indices of their last nodes.
 use Rattle.std.proofs.lemmas.Bool.Decides.{nat_tests}
-use Rattle.std.proofs.Common.{◌≡◌, ℕ, ◌+◌, ◌<◌, ◌≤◌, List, [], ◌∷◌, ◌++◌, length, get_or, take, drop, refl, sym, ap, subst, ◌∙◌, arith, Some, Ok, Err, length-append, append_assoc, rules}
+use Rattle.std.proofs.Common.{◌≡◌, ℕ, ◌+◌, ◌<◌, ◌≤◌, List, [], ◌∷◌, ◌++◌, length, length-append, append_assoc, get_or, take, drop}
+use Rattle.std.proofs.Common.{refl, sym, ap, subst, ◌∙◌, Some, Ok, Err, arith, rules}
 use Rattle.std.proofs.lemmas.List.{same_from_push, drop_more, drop_all, take_more}
-use Rattle.std.specs.Prelude.{Option, unwrap_or, false, ◌==◌}
+use Rattle.std.specs.Prelude.{Option, Result, unwrap_or, false, ◌==◌}
+use Rattle.arena.specs.AllocErrorType.{AllocError}
 use Rattle.arena.specs.AstRows.{Rows, no_rows, with_name, last_of}
 use Rattle.arena.specs.ByPartsType.{ByParts}
 use Rattle.arena.specs.Interner.{number_of}
 use Rattle.example_language.proofs.ReadingLemmas.{fits, HasRead, next, ends}
 use Rattle.example_language.specs.Meaning.{Expr, Num, Var, Join, token_of, fitting, applied, only_tree, words_of, reading}
 use Rattle.example_language.specs.Nodes.{sign_node}
-use Rattle.example_language.specs.Parsing.{Completes, ReadsWord}
+use Rattle.example_language.specs.Parsing.{Fails, Completes, ReadsWord}
 use Rattle.example_language.specs.Placing.{and_node, placed as placed_of, all_placed, tops, ArePlaced}
 use Rattle.example_language.specs.declared.nodes.Node.{Node}
 use Rattle.example_language.specs.declared.nodes.Node.TheVariants.{Number, Name}
 use Rattle.example_language.specs.declared.nodes.Sign.{Sign}
+use Rattle.example_language.specs.declared.parsing.ParseErr.{ParseErr}
 use Rattle.example_language.specs.declared.parsing.ParseErr.TheVariants.{Operands, TooDeep}
 use Rattle.example_language.specs.declared.parsing.Token.{Token}
 use Rattle.example_language.specs.declared.parsing.Token.TheVariants.{Number as NumberSign, Name as NameSign, Join as JoinSign}
@@ -75,6 +78,12 @@ module _ (word : List ℕ) (at : ℕ) {stack : List ℕ} {rows : Rows (ByParts N
       let are : and_node rows (sign_node sign l r) ≡ placed_of (Join sign left right) (all_placed trees)
       = λ i. and_node (placed.rows_are i) (sign_node sign (first.1 i) (last.1 i)) in
       record { tree = Join sign left right; others = trees; applies = refl; rows_are = are; stack_is = first.0 }
+
+-- a part that fails, and so the whole
+pub fails_too : {X Y : Type 0} {P Q : AllocError → Type 0} {part : Result X ParseErr} {whole : Result Y ParseErr} (e : ParseErr)
+    → ((f : ParseErr) → part ≡ Err f → whole ≡ Err f) → ((error : AllocError) → P error → Q error) → Fails part P e
+    → Fails whole Q e
+fails_too e same more fails = grind (arith, nat_tests)
 
 -- ---- The loop
 

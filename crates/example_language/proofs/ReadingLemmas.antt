@@ -1,12 +1,14 @@
 -- Words that are read one after another, and what they spell by the grammar.
 use Rattle.std.proofs.lemmas.Bool.Decides.{nat_tests}
-use Rattle.std.proofs.Common.{◌≡◌, ℕ, ◌+◌, ◌≤◌, ◌<◌, List, [], ◌∷◌, ◌++◌, length, refl, sym, ap, subst, ◌∙◌, Some, None, Ok, Err, append_assoc, append-nil, inl, arith}
+use Rattle.std.proofs.Common.{◌≡◌, ℕ, ◌+◌, ◌≤◌, ◌<◌, List, [], ◌∷◌, ◌++◌, length, append_assoc, append-nil, Some, None, Ok, Err, inl}
+use Rattle.std.proofs.Common.{refl, sym, ap, subst, ◌∙◌, arith}
 use Rattle.std.proofs.lemmas.Bool.{cases_Bool}
 use Rattle.std.proofs.lemmas.List.Splits.{length-slice_split}
 use Rattle.std.specs.List.{slice_split, onto_first}
 use Rattle.std.specs.Prelude.{Option, Result, Bool, ◌==◌, ◌↔◌}
 use Rattle.example_language.specs.Grammar.{Spells, waits, SpellAll, IsWrong, IsFirstError}
-use Rattle.example_language.specs.Meaning.{Expr, Num, Var, Join, token_of, fitting, applied, and_then, only_tree, read, words_of, spaced, reading}
+use Rattle.example_language.specs.Meaning.{Expr, Num, Var, Join, token_of, fitting, applied}
+use Rattle.example_language.specs.Meaning.{and_then, only_tree, read, words_of, spaced, reading}
 use Rattle.example_language.specs.declared.parsing.ParseErr.{ParseErr}
 use Rattle.example_language.specs.declared.parsing.Token.{Token}
 use Rattle.example_language.specs.declared.parsing.Token.TheVariants.{Number, Name, Join as JoinSign}
@@ -148,8 +150,8 @@ tree_reads (Join sign l r) words spells at trees others room =
     let left = tree_reads l spells.0 spells.4 at trees (spells.1 ++ behind) (omega (arith, room)) in
     let right = tree_reads r spells.1 spells.5 left.0 (l ∷ trees) behind (omega (arith, room)) in
     let more : length (Join sign l r ∷ trees) ≤ 64 = omega (arith, room) in
-    let last = word_reads (Some (JoinSign sign)) spells.2 (spells.2 ∷ []) right.0 (r ∷ l ∷ trees) (Join sign l r ∷ trees) others refl spells.6
-    refl more in (
+    let last = word_reads (Some (JoinSign sign)) spells.2 (spells.2 ∷ []) right.0 (r ∷ l ∷ trees) (Join sign l r ∷ trees) others
+    refl spells.6 refl more in (
       last.0,
       ap (λ (ws : List (List ℕ)). read at trees (ws ++ others)) spells.3 ∙ ap (read at trees)
           (append_assoc (spells.0 ++ spells.1) (spells.2 ∷ []) others ∙ append_assoc spells.0 spells.1 behind) ∙ left.1 ∙ right.1 ∙ last.1,

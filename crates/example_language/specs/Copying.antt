@@ -1,9 +1,8 @@
 -- What copying nodes to another arena gives.
-use Rattle.std.specs.Prelude.{◌≡◌, ◌⊎◌, ℕ, List, [], ◌∷◌, Some}
+use Rattle.std.specs.Prelude.{◌≡◌, ◌⊎◌, ℕ, List}
 use Rattle.arena.specs.AllocErrorType.{AllocError}
-use Rattle.arena.specs.Asks.{AsksFor, vector_ask}
+use Rattle.arena.specs.AstRows as rows
 use Rattle.arena.specs.AstType.{Ast}
-use Rattle.arena.specs.BlockType.{Block}
 use Rattle.arena.specs.ByPartsType.{ByParts}
 use Rattle.arena.specs.Source.{View}
 use Rattle.arena.specs.VecType.{Vec}
@@ -16,8 +15,7 @@ use Rattle.example_language.specs.declared.parsing.ParseErr.TheVariants.{Refused
 
 -- The arena was asked for one block with place for all nodes, and refused it.
 abbrev pub CopyRefused : View → View → Vec (ByParts Node) → AllocError → Type 0
-CopyRefused old new nodes error =
-    (blocks : List Block) × AsksFor (vector_ask node_item.SIZE node_item.ALIGN nodes.raw.len ∷ []) old new blocks (Some error)
+CopyRefused = rows.CopyRefused node_item
 
 -- The tree of a text was built in one arena, and the copy of its nodes was refused by another.
 pub record StopsAtCopy (first after other new : View) (text : List ℕ) (e : ParseErr) : Type 0 where

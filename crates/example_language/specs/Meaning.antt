@@ -2,7 +2,8 @@
 use Rattle.std.specs.Prelude.{ℕ, ◌+◌, ◌-◌, ◌^◌, ◌==◌, ◌&&◌, nat_lt, Bool, if◌then◌else◌, List, [], ◌∷◌, length, bytes_eq, codes}
 use Rattle.std.specs.Prelude.{Option, Some, None, Result, Ok, Err, option_map}
 use Rattle.std.specs.List.{list_all, slice_split}
-use Rattle.std.specs.Char.{is_ascii_alphabetic, is_ascii_digit}
+use Rattle.std.specs.Char.{is_ascii_alphabetic}
+use Rattle.std.specs.Str.{all_ascii_digits}
 use Rattle.std.specs.Str.Parse.{digits_value}
 use Rattle.example_language.specs.declared.nodes.Sign.{Sign}
 use Rattle.example_language.specs.declared.nodes.Sign.TheVariants.{Plus, Times}
@@ -20,7 +21,7 @@ is_name word = nat_lt 0 (length word) && list_all is_ascii_alphabetic word
 -- the number that digits spell, if it is below 2^32
 abbrev pub number_in : List ℕ → Option ℕ
 number_in word =
-    if list_all is_ascii_digit word && (nat_lt 0 (length word) && nat_lt (digits_value 10 word) (2 ^ 32))
+    if all_ascii_digits word && (nat_lt 0 (length word) && nat_lt (digits_value 10 word) (2 ^ 32))
     then Some (digits_value 10 word) else None
 
 -- what a word is, if it is a token

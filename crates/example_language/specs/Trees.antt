@@ -4,7 +4,6 @@ use Rattle.arena.specs.AstLaws.{ast_kind}
 use Rattle.arena.specs.AstRows as rows
 use Rattle.arena.specs.AstType.{Ast}
 use Rattle.arena.specs.Asts as asts
-use Rattle.arena.specs.Beside as beside
 use Rattle.arena.specs.ByPartsType.{ByParts}
 use Rattle.arena.specs.Forms.{by_parts, pair_item, byte, word}
 use Rattle.arena.specs.ItemTrait.{Ghosts}
@@ -31,12 +30,9 @@ IsTreeIn = asts.IsAstIn node_item is_after
 abbrev pub rows_in : Memory → Ast (ByParts Node) → rows.Rows (ByParts Node)
 rows_in = rows.rows_in node_item
 
--- After a call the tree is held, nothing else in the arena was written, and the arena's source forgot nothing.
-pub record Moved (old new : View) (before after : Ast (ByParts Node)) : Type 0 where
-  pub moves : beside.Moves (ast_kind node_item is_after) old.memory new.memory before after
-  pub counts : asts.KeepsCount old.source new.source
+-- what a call on a tree leaves, and a tree that was placed since then
+abbrev pub Moved : View → View → Ast (ByParts Node) → Ast (ByParts Node) → Type 0
+Moved = asts.Moved (ast_kind node_item is_after)
 
--- A tree that was placed since then: what was in use stays, and is apart from its blocks.
-pub record IsBuilt (old new : View) (tree : Ast (ByParts Node)) : Type 0 where
-  pub fresh : beside.IsNew (ast_kind node_item is_after) old.memory new.memory tree
-  pub counts : asts.KeepsCount old.source new.source
+abbrev pub IsBuilt : View → View → Ast (ByParts Node) → Type 0
+IsBuilt = asts.IsBuilt (ast_kind node_item is_after)

@@ -4,42 +4,21 @@ ghost use Rattle.arena.specs.AstRows.{no_rows};
 ghost use Rattle.arena.specs.Frame.{Frame};
 ghost use Rattle.arena.specs.Resizes.{NoneReadable};
 ghost use Rattle.arena.specs.Vecs.{vec_list};
-ghost use Rattle.example_language.specs.Copying.{CopyRefused, NotKept};
+ghost use Rattle.example_language.specs.Copying.{NotKept};
 ghost use Rattle.example_language.specs.Meaning.{Expr, reading};
 ghost use Rattle.example_language.specs.Placing.{placed};
 ghost use Rattle.example_language.specs.Trees.{AreNodesIn, node_item};
 
 use crate::nodes::NodeList;
 use crate::parsing::{ParseErr, parse};
-use arena::{Allocator, ChunkSource, CloneIn, Grown};
-
-/// Copies nodes to another arena. The copy is the same list; the names stay behind.
-///
-/// # Errors
-///
-/// Those of `clone_in`.
-#[tactic(auto, unfolding(arena_rules::specs::Rounding::up, arena_items::specs::Layout::second_at, arena_items::specs::Layout::pair_size))]
-pub fn copy_nodes<C: ChunkSource, D: ChunkSource>(
-    nodes: &NodeList,
-    from: &Allocator<C>,
-    to: &mut Allocator<D>,
-) -> Grown<NodeList>
-    requires { AreNodesIn from.now.memory nodes.now }
-    ensures nodes { IfOk result (AreNodesIn to.new.memory) }
-    ensures list { IfOk result (λ copy. vec_list node_item to.new.memory copy
-        ≡ vec_list node_item from.now.memory nodes.now) }
-    ensures refused { IfErr result (CopyRefused to.old to.new nodes.now) }
-    ensures others { Frame to.old.memory to.new.memory [] [] }
-{
-    let copy = nodes.clone_in(from, to)?;
-    Ok(copy)
-}
+use arena::{Allocator, ChunkSource, copy_nodes};
 
 /// Parses a text in one arena, copies the nodes to another, and resets the first. The copy stays.
 ///
 /// # Errors
 ///
 /// Those of `parse` and of `copy_nodes`. The first arena isn't reset then: what was in use stays as it was.
+#[tactic(auto, unfolding(arena_rules::specs::Rounding::up, arena_items::specs::Layout::second_at, arena_items::specs::Layout::pair_size))]
 pub fn keep<C: ChunkSource, D: ChunkSource>(
     first: &mut Allocator<C>,
     other: &mut Allocator<D>,

@@ -11,7 +11,8 @@ mod nodes;
 mod parsing;
 mod values;
 
-pub use copying::{copy_nodes, keep};
+pub use arena::copy_nodes;
+pub use copying::keep;
 pub use nodes::{Node, NodeList, Tree};
 pub use parsing::{ParseErr, parse};
 pub use values::value;

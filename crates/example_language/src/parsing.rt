@@ -55,10 +55,11 @@ fn is_name(word: &[u8]) -> bool
 fn number_in(word: &str) -> Option<u32>
     ensures { result ≡ number_in word.now }
 {
-    if !word.as_bytes().iter().all(|b| b.is_ascii_digit()) {
-        return None;
+    match word.as_bytes() {
+        // `parse` reads a plus before the digits.
+        [b'+', ..] => None,
+        _ => word.parse::<u32>().ok(),
     }
-    word.parse::<u32>().ok()
 }
 
 fn token_of(word: &str) -> Option<Token>
@@ -100,7 +101,7 @@ fn operands(stack: &mut Waiting, at: usize) -> Result<(u32, u32), ParseErr>
 }
 
 // The node of a token. A name gets its number, and a sign takes its operands from the stack.
-#[tactic(auto, using(crate::proofs::TreeLemmas::tree_stays))]
+#[tactic(auto, using(arena_ast::proofs::Layers::moved_none))]
 fn node_of<C: ChunkSource>(
     a: &mut Allocator<C>,
     tree: &mut Tree,
@@ -133,7 +134,7 @@ fn node_of<C: ChunkSource>(
 }
 
 // Reads a word: its node comes into the tree, and the index of the node on the stack.
-#[tactic(auto, using(crate::proofs::TreeLemmas::tree_stays), unfolding(arena_rules::specs::Rounding::up, arena_items::specs::Layout::second_at, arena_items::specs::Layout::pair_size))]
+#[tactic(auto, using(arena_ast::proofs::Layers::moved_none), unfolding(arena_rules::specs::Rounding::up, arena_items::specs::Layout::second_at, arena_items::specs::Layout::pair_size))]
 fn read_word<C: ChunkSource>(
     a: &mut Allocator<C>,
     tree: &mut Tree,
@@ -171,7 +172,7 @@ fn read_word<C: ChunkSource>(
 ///
 /// The text's first error, which is `Token`, `Operands` or `TooDeep`. `Refused` with the arena's error, or with
 /// `CapacityOverflow` for a name of 4,294,967,296 letters or more. Blocks placed until then stay in the arena, unused.
-#[tactic(auto, using(crate::proofs::TreeLemmas::others_stay, crate::proofs::TreeLemmas::built_then))]
+#[tactic(auto, using(arena_ast::proofs::Layers::built_others, arena_ast::proofs::Layers::built_then))]
 pub fn parse<C: ChunkSource>(a: &mut Allocator<C>, src: &str) -> Result<Tree, ParseErr>
     ensures tree { IfOk result (IsBuilt a.old a.new) }
     ensures reading { IfOk result (IsOfText src.now a.new.memory) }

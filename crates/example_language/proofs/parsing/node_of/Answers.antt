@@ -11,4 +11,5 @@ returns-in_ok-name-in-Name-clause-completes g c trees placed =
 
 pub returns-in_ok-left-in-Join-clause-completes : goal.returns-in_ok-left-in-Join-clause-completes
 returns-in_ok-left-in-Join-clause-completes g c trees placed =
-    rw (c.in-Join.is, c.sign_node.ensures.node) (joined c.args.word.now c.args.at c.in-Join.sign _ _ _ trees placed c.in_ok-left-in-Join.ensures.items)
+    rw (c.in-Join.is, c.sign_node.ensures.node)
+    (joined c.args.word.now c.args.at c.in-Join.sign _ _ _ trees placed c.in_ok-left-in-Join.ensures.items)

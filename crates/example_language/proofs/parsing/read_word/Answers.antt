@@ -1,11 +1,9 @@
-use Rattle.std.proofs.Common.{ℕ, ◌<◌, ◌∷◌, [], ◌++◌, ◌∙◌, sym, ap, Some, inl, inr, Option, rules}
-use Rattle.std.proofs.lemmas.List.Elements.{All-same}
-use Rattle.arena.proofs.AstLayers.{below_more, list_length, error_kept}
+use Rattle.std.proofs.Common.{◌∷◌, ◌∙◌, sym, ap, Some, inl, inr, Option, rules}
+use Rattle.arena.proofs.AstLayers.{moved_then, below_pushed, list_length, error_kept}
 use Rattle.example_language.specs.Meaning.{applied}
 use Rattle.example_language.specs.Trees.{node_item}
 use Rattle.example_language.specs.declared.parsing.Token.{Token}
-use Rattle.example_language.proofs.PlacingLemmas.{applies_now, too_deep, completed, room_left}
-use Rattle.example_language.proofs.TreeLemmas.{moved_then, fails_too}
+use Rattle.example_language.proofs.PlacingLemmas.{applies_now, too_deep, completed, room_left, fails_too}
 use Rattle.example_language.proofs.parsing.read_word.Goals as goal
 
 pub returns-in_default-clause-fails : goal.returns-in_default-clause-fails
@@ -51,9 +49,7 @@ returns g c =
     let room = room_left _ c.if-is_full.ensures.value c.if-is_full.ensures.fits in
     record {
       moved = moved_then node.moved (record { moves = added.moves; counts = added.counts });
-      stack = All-same (λ (i : ℕ). i < c.add.new.self.nodes.raw.len) c.push.new.self.items
-          (c.node_of.new.stack.items ++ c.in_ok-index.index ∷ []) c.push.ensures.items
-          (below_more _ _ c.node_of.new.stack.items c.in_ok-index.index node.stack added.index added.len);
+      stack = below_pushed _ _ _ _ _ node.stack added.index added.len c.push.ensures.items;
       reads = λ trees placed. (let by = node.completes trees placed in record {
         more = by.tree ∷ by.others;
         applies = applies_now by c.in-Some.ensures room;
