@@ -77,6 +77,7 @@ returns g c =
       nodes = name.nodes;
       rows = on_ok c.define.result (second.means ∙ name.rows);
       scopes = bound_as _ first.means c.define.result c.in_ok-id.id c.args.value _
-          (ap (λ (names : List (List ℕ)). number_of names c.args.name.now) (same_names second.means) ∙ name.number) defined.says defined.scopes;
+          (ap (λ (names : List (List ℕ)). number_of names c.args.name.now) (same_names second.means) ∙ name.number) defined.says
+          defined.scopes;
       kept = kept_as _ first.means c.define.result defined.kept;
     }
