@@ -1,14 +1,14 @@
 -- Names whose values are in a list or in a tree: what changes with a value in the list, or in the tree.
-use Rattle.std.proofs.Common.{◌≡◌, ℕ, zero, suc, ◌+◌, ◌<◌, ◌≤◌, ap, refl, sym, ◌∙◌, arith, List, [], ◌∷◌, ◌++◌, Option, Some, None, length, get_or, replicate}
+use Rattle.std.proofs.Common.{◌≡◌, ℕ, zero, suc, ◌+◌, ◌<◌, ◌≤◌, ap, refl, sym, ◌∙◌, arith, List, [], ◌∷◌, ◌++◌, Option, Some, None, length, get_or, drop, take, replicate}
 use Rattle.std.specs.Prelude.{slice_set, ◌==◌, if◌then◌else◌}
 use Rattle.std.specs.Option.{option_or}
 use Rattle.std.specs.Ordering.{nat_cmp}
-use Rattle.std.specs.Cmp.{unsigned_tied}
+use Rattle.std.specs.Cmp.{unsigned_tied, nat_cmp_total}
 use Rattle.std.specs.BTreeMap as tree
 use Rattle.std.specs.BTreeMap.{BTreeMap, Updates}
-use Rattle.std.specs.FinMap.{FinMap, get, insert, remove, from_entries}
+use Rattle.std.specs.FinMap.{FinMap, get, insert, remove, from_entries, entries, find, put, get-entries, entries-insert}
 use Rattle.std.proofs.lemmas.Bool.Decides.{nat_tests}
-use Rattle.std.proofs.lemmas.List.{get_or-set_same, get_or-set_other, get_or_default, get_or_past}
+use Rattle.std.proofs.lemmas.List.{get_or-set_same, get_or-set_other, get_or_default, get_or_past, drop_more, take_all}
 use Rattle.name_map.specs.Names.{named_with, HasNoneBelow}
 use Rattle.name_map.proofs.EntryLemmas.{same, after_insert, after_remove}
 use Rattle.name_map.proofs.MapLemmas.{tree_get}
@@ -102,8 +102,35 @@ module _ {X : Type 0} where
   padded (v ∷ values) n zero = refl
   padded (v ∷ values) n (suc q) = padded values n q
 
-  pub insert_next : (values more : List (Option X)) (n : ℕ) (m : BTreeMap ℕ X) (k : ℕ) (v : X) → more ≡ values ++ replicate n None
-      → AreApart more m → k < length more → held (slice_set more k (Some v)) m ≡ insert (held values m) k v
-  insert_next values more n m k v is apart within = set_first more m k (Some v) apart within
-      ∙ ap (λ h. insert h k v) (same _ _ (λ q. held_get more m q ∙ ap (λ o. option_or o (tree.get nat_cmp m q))
-      (ap (λ xs. get_or xs q None) is ∙ padded values n q) ∙ sym (held_get values m q)))
+  pub insert_next : (values more : List (Option X)) (n k : ℕ) (m : BTreeMap ℕ X) (name : ℕ) (v : X) → length values ≤ n
+      → more ≡ take n values ++ replicate k None → AreApart more m → name < length more
+      → held (slice_set more name (Some v)) m ≡ insert (held values m) name v
+  insert_next values more n k m name v long is apart within = set_first more m name (Some v) apart within
+      ∙ ap (λ h. insert h name v) (same _ _ (λ q. held_get more m q ∙ ap (λ o. option_or o (tree.get nat_cmp m q))
+      (ap (λ xs. get_or xs q None) (is ∙ ap (λ xs. xs ++ replicate k None) (take_all n values long)) ∙ padded values k q)
+      ∙ sym (held_get values m q)))
+
+  -- ---- Entries
+
+  put_least : (es : List (ℕ × X)) (k : ℕ) (v : X) → ((q : ℕ) → q < k + 1 → find nat_cmp q es ≡ None) → put nat_cmp k v es ≡ (k, v) ∷ es
+  put_least [] k v none = refl
+  put_least (e ∷ es) k v none = grind (arith, nat_tests, none e.0, unsigned_tied e.0 e.0)
+
+  insert_least : (m : FinMap nat_cmp X) (k : ℕ) (v : X) → HasNoneBelow (k + 1) m → entries (insert m k v) ≡ (k, v) ∷ entries m
+  insert_least m k v none = entries-insert nat_cmp_total m k v ∙ put_least (entries m) k v (λ q low. sym (get-entries m q) ∙ none q low)
+
+  -- the entries from a name on whose value is in the list, or which has none there
+  pub entries_some : (values : List (Option X)) (m : BTreeMap ℕ X) (at : ℕ) (o : Option X) (v : X) → AreApart values m → at < length values
+      → o ≡ get_or values at o → o ≡ Some v
+      → entries (named_with at (drop at values) (from_entries m.entries))
+      ≡ (at, v) ∷ entries (named_with (at + 1) (drop (at + 1) values) (from_entries m.entries))
+  entries_some values m at o v apart within is some =
+      let rest = named_with (at + 1) (drop (at + 1) values) (from_entries m.entries) in
+      let here : named_with at (drop at values) (from_entries m.entries) ≡ insert rest at v = grind (arith, nat_tests, drop_more) in
+      ap entries here ∙ insert_least rest at v (λ q low. before (at + 1) (drop (at + 1) values) _ q low ∙ apart.1 q (omega arith))
+
+  pub entries_none : (values : List (Option X)) (m : BTreeMap ℕ X) (at : ℕ) (o : Option X) → at < length values
+      → o ≡ get_or values at o → o ≡ None
+      → named_with at (drop at values) (from_entries {R = nat_cmp} m.entries)
+      ≡ named_with (at + 1) (drop (at + 1) values) (from_entries m.entries)
+  entries_none values m at o within is none = grind (arith, nat_tests, drop_more)

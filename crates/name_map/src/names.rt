@@ -1,5 +1,5 @@
 // What names hold.
-ghost use Rattle.std.specs.Prelude.{◌≡◌, OnOk, OnErr, IsSome, IsOk};
+ghost use Rattle.std.specs.Prelude.{◌≡◌, OnOk, OnErr, IfOk, IsSome, IsOk};
 ghost use Rattle.std.specs.Ordering.{nat_cmp};
 ghost use Rattle.std.specs.FinMap as map;
 
@@ -16,7 +16,7 @@ const FIRST: usize = 256;
 /// by a caller that chooses the names.
 #[derive(Drop)]
 pub struct Names<V> {
-    // By name, up to the greatest below 256 that has had a value.
+    // By name. Grows to at most 256 entries.
     first: Vec<Option<V>>,
     others: BTreeMap<u32, V>,
 }
@@ -49,6 +49,7 @@ impl<V: Copy> Names<V> {
     }
 
     /// Returns the value of a name, if it has one.
+    #[inline(always)]
     pub fn get(&self, name: u32) -> Option<V>
         ensures { result ≡ map.get self.now name }
     {
@@ -64,6 +65,7 @@ impl<V: Copy> Names<V> {
     /// # Errors
     ///
     /// Out of memory. The map is unchanged.
+    #[inline(always)]
     pub fn insert(&mut self, name: u32, value: V) -> Result<(), OutOfMemory>
         ensures ok { OnOk result (self.new ≡ map.insert self.old name value) }
         ensures err { OnErr result (self.new ≡ self.old) }
@@ -78,12 +80,14 @@ impl<V: Copy> Names<V> {
             self.others.insert(name, value)?;
             return Ok(());
         }
-        self.first.resize(at + 1, None)?;
+        // At least doubled, so that names in a row seldom lengthen it.
+        self.first.resize((2 * at + 1).min(FIRST), None)?;
         self.first[at] = Some(value);
         Ok(())
     }
 
     /// Removes a name, and returns its value if it had one. Takes no memory.
+    #[inline(always)]
     pub fn remove(&mut self, name: u32) -> Option<V>
         ensures value { result ≡ map.get self.old name }
         ensures rest { self.new ≡ map.remove self.old name }
@@ -103,5 +107,25 @@ impl<V: Copy> Names<V> {
     {
         self.first.clear();
         self.others = BTreeMap::new(alloc);
+    }
+
+    /// Returns the names and their values, by ascending name.
+    ///
+    /// # Errors
+    ///
+    /// Out of memory.
+    pub fn entries(&self, alloc: Global) -> Result<Vec<(u32, V)>, OutOfMemory>
+        ensures { IfOk result (λ all. all.items ≡ map.entries self.now) }
+    {
+        let mut all = Vec::new(alloc);
+        for at in 0..self.first.len() {
+            if let Some(value) = self.first[at] {
+                all.push((at as u32, value))?;
+            }
+        }
+        for (name, value) in &self.others {
+            all.push((*name, *value))?;
+        }
+        Ok(all)
     }
 }

@@ -1,7 +1,5 @@
-use Rattle.std.proofs.Common.{◌≡◌, sym, ◌∙◌, Some, None, arith, replicate, ◌++◌, ◌-◌, ◌+◌, ap}
+use Rattle.std.proofs.Common.{◌≡◌, sym, ◌∙◌, Some, None, arith}
 use Rattle.std.specs.FinMap as map
-use Rattle.std.specs.Vec.{vec_len}
-use Rattle.std.proofs.lemmas.List.{take_all}
 use Rattle.name_map.proofs.MapLemmas.{tree_get}
 use Rattle.name_map.proofs.NameLemmas.{get_other, set_first, set_other, apart_other, insert_next}
 use Rattle.name_map.proofs.names.Names.insert.Goals as goal
@@ -32,9 +30,7 @@ returns-in_err-resize-clause-held g c = λ held.
     absurd (grind (arith, rw none at held))
 
 pub returns-clause-ok : goal.returns-clause-ok
-returns-clause-ok g c = rw (← c.self.view_is)
-    (insert_next c.self.inside.first.items c.resize.new.self.items (c.args.name + 1 - vec_len c.self.inside.first) c.self.inside.others
-    c.args.name c.args.value (c.in_ok-resize.ensures.items
-    ∙ ap (λ xs. xs ++ replicate (c.args.name + 1 - vec_len c.self.inside.first) None)
-    (take_all (c.args.name + 1) c.self.inside.first.items (omega arith)))
-    (omega (arith, c.in_ok-resize.ensures.len), c.self.invariant.1) (omega (arith, c.in_ok-resize.ensures.len)))
+returns-clause-ok g c =
+    rw (← c.self.view_is) (insert_next c.self.inside.first.items c.resize.new.self.items _ _ c.self.inside.others c.args.name c.args.value
+    (omega (arith, c.min.ensures)) c.in_ok-resize.ensures.items
+    (omega (arith, c.in_ok-resize.ensures.len, c.min.ensures), c.self.invariant.1) (omega (arith, c.in_ok-resize.ensures.len, c.min.ensures)))
