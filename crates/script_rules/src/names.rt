@@ -1,5 +1,5 @@
 // What names hold.
-ghost use Rattle.std.specs.Prelude.{◌≡◌, ◌^◌, ◌<◌, [], OnOk, OnErr, IsSome, IsOk};
+ghost use Rattle.std.specs.Prelude.{◌≡◌, ◌^◌, ◌<◌, [], OnOk, OnErr, IfOk, IsSome, IsOk};
 ghost use Rattle.script_rules.specs.Objects.{get, bind, unbind};
 
 use arena_rules::OutOfMemory;
@@ -66,5 +66,16 @@ impl<V: Copy> Names<V> {
         ensures { result ≡ get self.now name }
     {
         self.values.get(name)
+    }
+
+    /// Returns the names and their values, by ascending name.
+    ///
+    /// # Errors
+    ///
+    /// Out of memory.
+    pub fn entries(&self, alloc: Global) -> Result<Vec<(u32, V)>, OutOfMemory>
+        ensures { IfOk result (λ all. all.items ≡ self.now) }
+    {
+        self.values.entries(alloc)
     }
 }
