@@ -1,5 +1,3 @@
-mod Trees
-mod FirstNames
 mod Log
 mod Known
 mod Change

@@ -5,7 +5,6 @@
 
 mod marks;
 mod names;
-mod others;
 mod replies;
 mod run;
 mod serve;

@@ -4,9 +4,10 @@ ghost use Rattle.std.specs.Option.{is_some};
 ghost use Rattle.call_rules.specs.Machine.{mark_named};
 ghost use Rattle.arena_runs.specs.Marks.{Noted, named, marks_from, stands, LetsGo, Forgets};
 
-use crate::names::Names;
+use crate::names::keep;
 use arena_core::{Arena, Checkpoint};
-use arena_rules::OutOfMemory;
+use arena_rules::{OutOfMemory, Place};
+use name_map::Names;
 use std::alloc::Global;
 use std::collections::BTreeSet;
 use std::marker::Model;
@@ -116,7 +117,7 @@ impl Marks {
     }
 
     // Removes the names whose blocks the rewind has freed.
-    pub(crate) fn forget<const M: usize>(&mut self, arena: &Arena<M>, names: &mut Names)
+    pub(crate) fn forget<const M: usize>(&mut self, arena: &Arena<M>, names: &mut Names<Place>)
         ensures { Forgets arena.now.state names.old names.new self.old self.new }
     {
         let count = let_go(arena, names, &self.log);
@@ -134,14 +135,14 @@ impl Marks {
 
 // Reads the log from its last name back, and removes each name whose block isn't in use, until it finds a name whose
 // block is in use and isn't empty. Returns the length of the log up to that name, or 0 if there is none.
-fn let_go<const M: usize>(arena: &Arena<M>, names: &mut Names, log: &Vec<u32>) -> usize
+fn let_go<const M: usize>(arena: &Arena<M>, names: &mut Names<Place>, log: &Vec<u32>) -> usize
     ensures lets { LetsGo arena.now.state names.old names.new result log.now.items }
     ensures over { 0 < result → IsTrue (stands arena.now.state names.new (get_or log.now.items (result - 1) 0)) }
 {
     let mut count = log.len();
     while count > 0 {
         let name = log[count - 1];
-        let stays = names.keep(arena, name);
+        let stays = keep(names, arena, name);
         if stays {
             return count;
         }

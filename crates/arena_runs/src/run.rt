@@ -7,13 +7,14 @@ ghost use Rattle.arena_runs.specs.Runs.{Runs, Stops, StopsWith};
 ghost use Rattle.arena_runs.specs.Running.{IsRunning, IsOnTheWay, GoesOn, StaysAt, StaysBehind, EndsWith};
 
 use crate::marks::Marks;
-use crate::names::Names;
+use crate::names::blocks;
 use crate::replies::{Listed, Replies};
 use crate::serve::serve_into;
 use arena_core::Arena;
-use arena_rules::OutOfMemory;
+use arena_rules::{OutOfMemory, Place};
 use arena_store::{Block, ChunkSource};
 use call_rules::{Call, Reply};
+use name_map::Names;
 use std::alloc::Global;
 
 /// The result of a run of calls: a reply for each call, and the blocks that names hold at the end, by ascending name.
@@ -34,7 +35,7 @@ pub enum Stopped {
 #[derive(Drop)]
 pub struct Run {
     pub(crate) alloc: Global,
-    pub(crate) names: Names,
+    pub(crate) names: Names<Place>,
     pub(crate) marks: Marks,
 }
 
@@ -43,7 +44,7 @@ impl Run {
     ///
     /// # Errors
     ///
-    /// `OutOfMemory` if memory runs out.
+    /// None at present: names and marks take memory as calls set them.
     pub fn new<const M: usize>(alloc: Global, arena: &Arena<M>) -> Result<Run, OutOfMemory>
         ensures { (source : Source) → IfOk result (λ run. IsRunning
             (view arena.now source) (view arena.now source) run.names run.marks [] []) }
@@ -52,7 +53,7 @@ impl Run {
         arena.known();
         Ok(Run {
             alloc,
-            names: Names::new(alloc)?,
+            names: Names::new(alloc),
             marks: Marks::new(alloc),
         })
     }
@@ -99,7 +100,7 @@ impl Run {
             EndsWith (view arena.now source) self.now.names self.now.marks held.items) }
         ensures err { (source : Source) → OnErr result (StaysBehind (view arena.now source) self.now.names self.now.marks) }
     {
-        let held = self.names.blocks(self.alloc, arena.generation())?;
+        let held = blocks(self.alloc, &self.names, arena.generation())?;
         Ok(held)
     }
 }

@@ -10,7 +10,7 @@ ghost use Rattle.arena_store.specs.Memory.{is_readable, block_at};
 ghost use Rattle.arena_core.specs.Answers.{OnCounted};
 ghost use Rattle.arena_runs.specs.Serving.{Serves, ServesNoting, ServesRun, Wants, Holds, resizing, is_wrong, ResizesFilling};
 
-use crate::names::Names;
+use crate::names::replace;
 use crate::replies::Replies;
 use crate::run::Run;
 use arena_core::Arena;
@@ -18,6 +18,7 @@ use arena_place::Layout;
 use arena_rules::{OutOfMemory, Place};
 use arena_store::{ArenaErr, Block, ChunkSource};
 use call_rules::{Call, Reply};
+use name_map::Names;
 
 // The requested size and alignment for the block of a name.
 #[derive(Clone, Copy)]
@@ -79,7 +80,7 @@ fn serve_alloc<const M: usize, C: ChunkSource>(
     match arena.alloc_counted(chunks, layout) {
         Ok((block, refused)) => {
             let addr = block.addr;
-            run.names.replace(name, wanted.at(addr));
+            replace(&mut run.names, name, wanted.at(addr));
             arena.fill(block, 0, fill);
             Ok(Reply::Placed { addr, refused })
         }
@@ -144,7 +145,7 @@ fn serve_resize<const M: usize, C: ChunkSource>(
     match resize(arena, chunks, place, layout, fill) {
         Ok((block, refused)) => {
             let addr = block.addr;
-            run.names.replace(wanted.name, wanted.at(addr));
+            replace(&mut run.names, wanted.name, wanted.at(addr));
             run.marks.settle(fill.is_none() && addr == place.addr);
             Ok(Reply::Placed { addr, refused })
         }
@@ -157,7 +158,7 @@ fn serve_resize<const M: usize, C: ChunkSource>(
 }
 
 #[inline(always)]
-fn serve_dealloc<const M: usize>(arena: &mut Arena<M>, names: &mut Names, name: u32) -> Reply
+fn serve_dealloc<const M: usize>(arena: &mut Arena<M>, names: &mut Names<Place>, name: u32) -> Reply
     requires { Holds arena.old.state names.old }
     ensures serves { (source : Source) → Serves (Call.Dealloc name) result (view arena.old source)
         (view arena.new source) names.old names.new }
@@ -174,7 +175,7 @@ fn serve_dealloc<const M: usize>(arena: &mut Arena<M>, names: &mut Names, name: 
 #[inline(always)]
 fn serve_write<const M: usize>(
     arena: &mut Arena<M>,
-    names: &Names,
+    names: &Names<Place>,
     name: u32,
     at: u64,
     bytes: &[u8],
@@ -199,7 +200,7 @@ fn serve_write<const M: usize>(
 #[inline(always)]
 fn serve_read<const M: usize, R: Replies>(
     arena: &Arena<M>,
-    names: &Names,
+    names: &Names<Place>,
     name: u32,
     left: usize,
     replies: &mut R,

@@ -8,13 +8,13 @@ use Rattle.call_rules.specs.Machine.{Held, is_left}
 use Rattle.arena_store.specs.declared.block.Block.{Block}
 use Rattle.name_map.proofs.EntryLemmas.{remove_absent}
 use Rattle.arena_runs.proofs.Log.{not_both, not_standing, standing}
-use Rattle.arena_runs.proofs.names.Names.keep.Goals as goal
+use Rattle.arena_runs.proofs.names.keep.Goals as goal
 
 pub returns-in_default-clause-answer : goal.returns-in_default-clause-answer
 returns-in_default-clause-answer g c = rw (← c.get.ensures, c.in_default.is) refl
 
 pub returns-in_default-clause-ended : goal.returns-in_default-clause-ended
-returns-in_default-clause-ended g c = λ _. sym (remove_absent c.args.self.now c.args.name (sym c.get.ensures ∙ c.in_default.is))
+returns-in_default-clause-ended g c = λ _. sym (remove_absent c.args.names.now c.args.name (sym c.get.ensures ∙ c.in_default.is))
 
 -- what the arena returns for the block
 has : (state : State) (names : Held) (name : ℕ) {p : Place} {b : Block} {o : Option Place} {r : Bool} → r ≡ is_readable state b

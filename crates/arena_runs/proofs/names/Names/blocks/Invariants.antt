@@ -1,9 +1,0 @@
-use Rattle.std.proofs.Common.{◌≡◌, ℕ, ◌++◌, map}
-use Rattle.arena_rules.specs.declared.place.Place.{Place}
-use Rattle.arena_store.specs.Memory.{block_at}
-use Rattle.arena_runs.proofs.names.Names.blocks.Given as goal
-
-abbrev pub invariant-loop-name : goal.invariant-loop-name
-invariant-loop-name l =
-    l.blocks.items ++ map (λ (e : ℕ × Place). (e.0, block_at l.generation e.1)) l.name-iterator
-    ≡ map (λ (e : ℕ × Place). (e.0, block_at l.generation e.1)) l.initial.name-iterator
