@@ -1,5 +1,5 @@
 -- Names whose values are in a list or in a tree: what changes with a value in the list, or in the tree.
-use Rattle.std.proofs.Common.{◌≡◌, ℕ, zero, suc, ◌+◌, ◌<◌, ◌≤◌, ap, refl, sym, ◌∙◌, arith, List, [], ◌∷◌, ◌++◌, Option, Some, None, length, get_or, drop, take, replicate}
+use Rattle.std.proofs.Common.{◌≡◌, ℕ, zero, suc, ◌+◌, ◌<◌, ◌≤◌, ap, refl, sym, ◌∙◌, arith, List, [], ◌∷◌, ◌++◌, Option, Some, None, length, get_or, drop, replicate}
 use Rattle.std.specs.Prelude.{slice_set, ◌==◌, if◌then◌else◌}
 use Rattle.std.specs.Option.{option_or}
 use Rattle.std.specs.Ordering.{nat_cmp}
@@ -8,7 +8,7 @@ use Rattle.std.specs.BTreeMap as tree
 use Rattle.std.specs.BTreeMap.{BTreeMap, Updates}
 use Rattle.std.specs.FinMap.{FinMap, get, insert, remove, from_entries, entries, find, put, get-entries, entries-insert}
 use Rattle.std.proofs.lemmas.Bool.Decides.{nat_tests}
-use Rattle.std.proofs.lemmas.List.{get_or-set_same, get_or-set_other, get_or_default, get_or_past, drop_more, take_all}
+use Rattle.std.proofs.lemmas.List.{get_or-set_same, get_or-set_other, get_or_default, get_or_past, drop_more}
 use Rattle.name_map.specs.Names.{named_with, HasNoneBelow}
 use Rattle.name_map.proofs.EntryLemmas.{same, after_insert, after_remove}
 use Rattle.name_map.proofs.MapLemmas.{tree_get}
@@ -102,13 +102,20 @@ module _ {X : Type 0} where
   padded (v ∷ values) n zero = refl
   padded (v ∷ values) n (suc q) = padded values n q
 
-  pub insert_next : (values more : List (Option X)) (n k : ℕ) (m : BTreeMap ℕ X) (name : ℕ) (v : X) → length values ≤ n
-      → more ≡ take n values ++ replicate k None → AreApart more m → name < length more
-      → held (slice_set more name (Some v)) m ≡ insert (held values m) name v
-  insert_next values more n k m name v long is apart within = set_first more m name (Some v) apart within
-      ∙ ap (λ h. insert h name v) (same _ _ (λ q. held_get more m q ∙ ap (λ o. option_or o (tree.get nat_cmp m q))
-      (ap (λ xs. get_or xs q None) (is ∙ ap (λ xs. xs ++ replicate k None) (take_all n values long)) ∙ padded values k q)
-      ∙ sym (held_get values m q)))
+  pub insert_next : (values more : List (Option X)) (n : ℕ) (m : BTreeMap ℕ X) (k : ℕ) (v : X) → more ≡ values ++ replicate n None
+      → AreApart more m → k < length more → held (slice_set more k (Some v)) m ≡ insert (held values m) k v
+  insert_next values more n m k v is apart within = set_first more m k (Some v) apart within
+      ∙ ap (λ h. insert h k v) (same _ _ (λ q. held_get more m q ∙ ap (λ o. option_or o (tree.get nat_cmp m q))
+      (ap (λ xs. get_or xs q None) is ∙ padded values n q) ∙ sym (held_get values m q)))
+
+  -- a list with no value
+  pub named_none : (i n : ℕ) (values : List (Option X)) (others : FinMap nat_cmp X) → values ≡ replicate n None
+      → named_with i values others ≡ others
+  named_none i n values others none = ap (λ xs. named_with i xs others) none ∙ of_none i n
+    where
+      of_none : (i n : ℕ) → named_with i (replicate n None) others ≡ others
+      of_none i zero = refl
+      of_none i (suc n) = of_none (i + 1) n
 
   -- ---- Entries
 

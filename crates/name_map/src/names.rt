@@ -1,5 +1,5 @@
 // What names hold.
-ghost use Rattle.std.specs.Prelude.{◌≡◌, OnOk, OnErr, IfOk, IsSome, IsOk};
+ghost use Rattle.std.specs.Prelude.{◌≡◌, ℕ, ◌<◌, ◌≤◌, ◌++◌, None, length, replicate, OnOk, OnErr, IfOk, IsSome, IsOk};
 ghost use Rattle.std.specs.Ordering.{nat_cmp};
 ghost use Rattle.std.specs.FinMap as map;
 
@@ -80,8 +80,7 @@ impl<V: Copy> Names<V> {
             self.others.insert(name, value)?;
             return Ok(());
         }
-        // At least doubled, so that names in a row seldom lengthen it.
-        self.first.resize((2 * at + 1).min(FIRST), None)?;
+        lengthen(&mut self.first, at)?;
         self.first[at] = Some(value);
         Ok(())
     }
@@ -105,7 +104,7 @@ impl<V: Copy> Names<V> {
     pub fn clear(&mut self, alloc: Global)
         ensures { self.new ≡ map.empty }
     {
-        self.first.clear();
+        self.first.fill(None);
         self.others = BTreeMap::new(alloc);
     }
 
@@ -128,4 +127,16 @@ impl<V: Copy> Names<V> {
         }
         Ok(all)
     }
+}
+
+// Lengthens the list of first values until it has this index. At least doubles it, so that names in a row seldom do.
+#[inline(never)]
+fn lengthen<V: Copy>(first: &mut Vec<Option<V>>, at: usize) -> Result<(), OutOfMemory>
+    requires { (length first.old.items ≤ at) × (at < 256) }
+    ensures ok { OnOk result ((n : ℕ) × (first.new.items ≡ first.old.items ++ replicate n None)) }
+    ensures len { OnOk result ((at < length first.new.items) × (length first.new.items ≤ 256)) }
+    ensures err { OnErr result (first.new.items ≡ first.old.items) }
+{
+    first.resize((2 * at + 1).min(FIRST), None)?;
+    Ok(())
 }

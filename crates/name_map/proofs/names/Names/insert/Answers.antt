@@ -22,8 +22,8 @@ pub returns-then-at-ge-FIRST-clause-ok : goal.returns-then-at-ge-FIRST-clause-ok
 returns-then-at-ge-FIRST-clause-ok g c = rw (← c.self.view_is) (set_other c.self.inside.first.items c.self.inside.others
     c.insert.new.self c.args.name (Some c.args.value) (omega arith) c.in_ok-insert.ensures.updates)
 
-pub returns-in_err-resize-clause-held : goal.returns-in_err-resize-clause-held
-returns-in_err-resize-clause-held g c = λ held.
+pub returns-in_err-lengthen-clause-held : goal.returns-in_err-lengthen-clause-held
+returns-in_err-lengthen-clause-held g c = λ held.
     let none : map.get c.args.self.now c.args.name ≡ None = rw (← c.self.view_is)
     (sym (get_other c.self.inside.first.items c.self.inside.others c.args.name (omega arith))
     ∙ sym (tree_get c.self.inside.others c.args.name) ∙ c.self.invariant.1 c.args.name (omega arith)) in
@@ -31,6 +31,6 @@ returns-in_err-resize-clause-held g c = λ held.
 
 pub returns-clause-ok : goal.returns-clause-ok
 returns-clause-ok g c =
-    rw (← c.self.view_is) (insert_next c.self.inside.first.items c.resize.new.self.items _ _ c.self.inside.others c.args.name c.args.value
-    (omega (arith, c.min.ensures)) c.in_ok-resize.ensures.items
-    (omega (arith, c.in_ok-resize.ensures.len, c.min.ensures), c.self.invariant.1) (omega (arith, c.in_ok-resize.ensures.len, c.min.ensures)))
+    let longer = c.in_ok-lengthen.ensures in
+    rw (← c.self.view_is) (insert_next c.self.inside.first.items c.lengthen.new.first.items longer.ok.0 c.self.inside.others c.args.name
+    c.args.value longer.ok.1 (longer.len.1, c.self.invariant.1) longer.len.0)
