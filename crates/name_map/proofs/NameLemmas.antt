@@ -8,6 +8,7 @@ use Rattle.std.specs.BTreeMap as tree
 use Rattle.std.specs.BTreeMap.{BTreeMap, Updates}
 use Rattle.std.specs.FinMap.{FinMap, get, insert, remove, from_entries, entries, find, put, get-entries, entries-insert}
 use Rattle.std.proofs.lemmas.Bool.Decides.{nat_tests}
+use Rattle.std.proofs.lemmas.Option.{none-some}
 use Rattle.std.proofs.lemmas.List.{get_or-set_same, get_or-set_other, get_or_default, get_or_past, drop_more}
 use Rattle.name_map.specs.Names.{named_with, HasNoneBelow}
 use Rattle.name_map.proofs.EntryLemmas.{same, after_insert, after_remove}
@@ -109,13 +110,11 @@ module _ {X : Type 0} where
       (ap (λ xs. get_or xs q None) is ∙ padded values n q) ∙ sym (held_get values m q)))
 
   -- a list with no value
-  pub named_none : (i n : ℕ) (values : List (Option X)) (others : FinMap nat_cmp X) → values ≡ replicate n None
-      → named_with i values others ≡ others
-  named_none i n values others none = ap (λ xs. named_with i xs others) none ∙ of_none i n
-    where
-      of_none : (i n : ℕ) → named_with i (replicate n None) others ≡ others
-      of_none i zero = refl
-      of_none i (suc n) = of_none (i + 1) n
+  pub named_none : (i : ℕ) (values : List (Option X)) (others : FinMap nat_cmp X)
+      → ((k : ℕ) → k < length values → get_or values k None ≡ None) → named_with i values others ≡ others
+  named_none i [] others none = refl
+  named_none i (None ∷ values) others none = named_none (i + 1) values others (λ k within. none (suc k) (omega (arith, within)))
+  named_none i (Some v ∷ values) others none = absurd (none-some v (sym (none 0 (omega arith))))
 
   -- ---- Entries
 

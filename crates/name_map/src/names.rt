@@ -104,7 +104,9 @@ impl<V: Copy> Names<V> {
     pub fn clear(&mut self, alloc: Global)
         ensures { self.new ≡ map.empty }
     {
-        self.first.fill(None);
+        for at in 0..self.first.len() {
+            self.first[at] = None;
+        }
         self.others = BTreeMap::new(alloc);
     }
 

@@ -1,4 +1,3 @@
-use Rattle.std.proofs.lemmas.Bool.Decides.{nat_tests}
 use Rattle.std.proofs.Common.{arith}
 use Rattle.std.specs.Ordering.{nat_cmp}
 use Rattle.std.specs.FinMap.{empty, get-empty}
@@ -7,7 +6,8 @@ use Rattle.name_map.proofs.names.Names.clear.Goals as goal
 
 pub invariant_of-self : goal.invariant_of-self
 invariant_of-self g c =
-    (omega (arith, c.fill.ensures.len, c.self.invariant.0), λ name low. rw c.new.ensures.empty (get-empty nat_cmp name))
+    (omega (arith, c.loop-at.invariant.long, c.self.invariant.0), λ name low. rw c.new.ensures.empty (get-empty nat_cmp name))
 
 pub returns : goal.returns
-returns g c = rw c.new.ensures.empty (named_none 0 _ c.fill.new.self.items empty (c.fill.ensures.items (λ y cloned. grind (arith, nat_tests))))
+returns g c = rw c.new.ensures.empty (named_none 0 c.loop-at.self-inside.first.items empty
+    (λ k within. c.loop-at.invariant.none k (omega (arith, c.loop-at.invariant.long, c.loop-at.invariant.end, c.loop-at-test.false))))
