@@ -1,13 +1,13 @@
 // Commands on sets of numbers.
 #![tactic(auto, using(crate::proofs::BitFacts::bit_told), unfolding(script_rules::specs::Effects::effect))]
 
-ghost use Rattle.std.specs.Prelude.{◌≡◌, ◌*◌, ◌<◌, ◌≤◌, Ok, Some, None, false, IsTrue, length, IfOk, IfErr};
+ghost use Rattle.std.specs.Prelude.{◌≡◌, ℕ, ◌*◌, ◌<◌, ◌≤◌, Ok, Some, None, false, IsTrue, length, IfOk, IfErr};
 ghost use Rattle.arena_bits.specs.Bits.{members};
 ghost use Rattle.arena_bits.specs.Printed.{printed};
 ghost use Rattle.arena_bits.specs.Sets.{IsSetIn, PlacesSet, set_of as bits_in};
 ghost use Rattle.script_rules.specs.Objects.{bits_end, get, has};
 ghost use Rattle.arena_rules.specs.Bits.{words_for};
-ghost use Rattle.arena_script.specs.Things.{AreThings, bits_below};
+ghost use Rattle.arena_script.specs.Things.{Things, AreThings, bits_below, IsThingIn};
 ghost use Rattle.arena_script.specs.Acts.{Acts};
 
 use crate::act::{Act, found};
@@ -59,7 +59,7 @@ pub(crate) fn set_bit<C: ChunkSource>(
     requires { AreThings a.old.memory things.now }
     ensures { Acts (Command.SetBit name bit) things.now a.old a.new result }
 {
-    let mut set = found!(set_of(things, name));
+    let mut set = found!(set_of(things, name), else return);
     if !has_word(set, bit) {
         return Ok(Act::Tells(ScriptReply::OutOfRange));
     }
@@ -77,7 +77,7 @@ pub(crate) fn unset_bit<C: ChunkSource>(
     requires { AreThings a.old.memory things.now }
     ensures { Acts (Command.UnsetBit name bit) things.now a.old a.new result }
 {
-    let mut set = found!(set_of(things, name));
+    let mut set = found!(set_of(things, name), else return);
     if !has_word(set, bit) {
         return Ok(Act::Tells(ScriptReply::OutOfRange));
     }
@@ -117,8 +117,8 @@ pub(crate) fn union<C: ChunkSource>(
     let Some(_other) = things.get(other) else {
         return Ok(Act::Tells(ScriptReply::NoSuchName));
     };
-    let mut set = found!(set_of(things, name));
-    let more = found!(set_of(things, other));
+    let mut set = found!(set_of(things, name), else return);
+    let more = found!(set_of(things, other), else return);
     set.union(a, &more);
     Ok(Act::Gives(name, Thing::Bits(set), ScriptReply::Done))
 }
@@ -145,7 +145,7 @@ pub(crate) fn ones<C: ChunkSource>(
     requires { AreThings a.now.memory things.now }
     ensures { Acts (Command.Ones name) things.now a.now a.now result }
 {
-    let set = found!(set_of(things, name));
+    let set = found!(set_of(things, name), else return);
     let numbers = numbers_of(alloc, a, set)?;
     Ok(Act::Tells(ScriptReply::Numbers(numbers)))
 }
@@ -184,17 +184,10 @@ fn copy_of<C: ChunkSource>(a: &mut Allocator<C>, set: BitSet) -> Grown<BitSet>
 
 // Copies the set of a name to another that holds nothing.
 #[inline(never)]
-pub(crate) fn copied<C: ChunkSource>(
-    a: &mut Allocator<C>,
-    things: &Names<Thing>,
-    name: u32,
-    other: u32,
-    set: BitSet,
-) -> Grown<Act>
-    requires things { AreThings a.old.memory things.now }
-    requires found { get things.now name ≡ Some (Thing.Bits set) }
-    requires none { get things.now other ≡ None }
-    ensures { Acts (Command.CopyTo name other) things.now a.old a.new result }
+pub(crate) fn copied<C: ChunkSource>(a: &mut Allocator<C>, other: u32, set: BitSet) -> Grown<Act>
+    requires { IsThingIn a.old.memory (Thing.Bits set) }
+    ensures { (things : Things) (name : ℕ) → AreThings a.old.memory things → get things name ≡ Some (Thing.Bits set)
+        → get things other ≡ None → Acts (Command.CopyTo name other) things a.old a.new result }
 {
     a.known();
     let copy = copy_of(a, set)?;

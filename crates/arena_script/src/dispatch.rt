@@ -24,10 +24,10 @@ pub(crate) fn act<C: ChunkSource>(
     ensures { Acts command.now things.now a.old a.new result }
 {
     match command {
-        Command::MakeList { name } => lists::make_list(a, things, *name),
-        Command::MakeText { name } => texts::make_text(a, things, *name),
+        Command::MakeList { name } => lists::make_list(things, *name),
+        Command::MakeText { name } => texts::make_text(things, *name),
         Command::MakeBits { name, capacity } => bits::make_bits(a, things, *name, *capacity),
-        Command::MakeMap { name } => maps::make_map(a, things, *name),
+        Command::MakeMap { name } => maps::make_map(things, *name),
         Command::MakeValue { name, value } => values::make_value(a, things, *name, *value),
         Command::Push { name, value } => lists::push(a, things, *name, *value),
         Command::Insert { name, at, value } => lists::insert(a, things, *name, *at, *value),
@@ -35,7 +35,7 @@ pub(crate) fn act<C: ChunkSource>(
         Command::Remove { name, at } => lists::remove(a, things, *name, *at),
         Command::At { name, at } => lists::at(a, things, *name, *at),
         Command::Put { name, at, value } => lists::put(a, things, *name, *at, *value),
-        Command::Truncate { name, len } => lists::truncate(a, things, *name, *len),
+        Command::Truncate { name, len } => lists::truncate(things, *name, *len),
         Command::Byte { name, byte } => texts::byte(a, things, *name, *byte),
         Command::Front { name, byte } => texts::front(a, things, *name, *byte),
         Command::Append { name, bytes } => texts::append(a, things, *name, bytes.as_slice()),
@@ -49,9 +49,9 @@ pub(crate) fn act<C: ChunkSource>(
         Command::Unbind { name, key } => maps::unbind(a, things, *name, *key),
         Command::Load { name } => values::load(a, things, *name),
         Command::Store { name, value } => values::store(a, things, *name, *value),
-        Command::Len { name } => whole::len(a, things, *name),
+        Command::Len { name } => whole::len(things, *name),
         Command::Show { name } => whole::show(alloc, a, things, *name),
         Command::CopyTo { name, other } => whole::copy(a, things, *name, *other),
-        Command::DropName { name } => whole::drop_name(a, things, *name),
+        Command::DropName { name } => whole::drop_name(things, *name),
     }
 }

@@ -27,10 +27,7 @@ pub(crate) fn list_of(things: &Names<Thing>, name: u32) -> Result<Vec<u32>, Scri
     match things.get(name) {
         None => Err(ScriptReply::NoSuchName),
         Some(Thing::List(v)) => Ok(v),
-        Some(Thing::Text(_)) => Err(ScriptReply::WrongKind),
-        Some(Thing::Bits(_)) => Err(ScriptReply::WrongKind),
-        Some(Thing::Map(_)) => Err(ScriptReply::WrongKind),
-        Some(Thing::Value(_)) => Err(ScriptReply::WrongKind),
+        Some(_) => Err(ScriptReply::WrongKind),
     }
 }
 
@@ -47,11 +44,8 @@ pub(crate) fn value_of(things: &Names<Thing>, name: u32) -> Result<Box<u64>, Scr
 {
     match things.get(name) {
         None => Err(ScriptReply::NoSuchName),
-        Some(Thing::List(_)) => Err(ScriptReply::WrongKind),
-        Some(Thing::Text(_)) => Err(ScriptReply::WrongKind),
-        Some(Thing::Bits(_)) => Err(ScriptReply::WrongKind),
-        Some(Thing::Map(_)) => Err(ScriptReply::WrongKind),
         Some(Thing::Value(b)) => Ok(b),
+        Some(_) => Err(ScriptReply::WrongKind),
     }
 }
 
@@ -68,11 +62,8 @@ pub(crate) fn text_of(things: &Names<Thing>, name: u32) -> Result<StringBuilder,
 {
     match things.get(name) {
         None => Err(ScriptReply::NoSuchName),
-        Some(Thing::List(_)) => Err(ScriptReply::WrongKind),
         Some(Thing::Text(t)) => Ok(t),
-        Some(Thing::Bits(_)) => Err(ScriptReply::WrongKind),
-        Some(Thing::Map(_)) => Err(ScriptReply::WrongKind),
-        Some(Thing::Value(_)) => Err(ScriptReply::WrongKind),
+        Some(_) => Err(ScriptReply::WrongKind),
     }
 }
 
@@ -89,11 +80,8 @@ pub(crate) fn set_of(things: &Names<Thing>, name: u32) -> Result<BitSet, ScriptR
 {
     match things.get(name) {
         None => Err(ScriptReply::NoSuchName),
-        Some(Thing::List(_)) => Err(ScriptReply::WrongKind),
-        Some(Thing::Text(_)) => Err(ScriptReply::WrongKind),
         Some(Thing::Bits(s)) => Ok(s),
-        Some(Thing::Map(_)) => Err(ScriptReply::WrongKind),
-        Some(Thing::Value(_)) => Err(ScriptReply::WrongKind),
+        Some(_) => Err(ScriptReply::WrongKind),
     }
 }
 
@@ -110,10 +98,7 @@ pub(crate) fn map_of(things: &Names<Thing>, name: u32) -> Result<HashMap<u32, u3
 {
     match things.get(name) {
         None => Err(ScriptReply::NoSuchName),
-        Some(Thing::List(_)) => Err(ScriptReply::WrongKind),
-        Some(Thing::Text(_)) => Err(ScriptReply::WrongKind),
-        Some(Thing::Bits(_)) => Err(ScriptReply::WrongKind),
         Some(Thing::Map(m)) => Ok(m),
-        Some(Thing::Value(_)) => Err(ScriptReply::WrongKind),
+        Some(_) => Err(ScriptReply::WrongKind),
     }
 }

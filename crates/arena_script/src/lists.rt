@@ -1,11 +1,12 @@
 // Commands on lists.
 #![tactic(auto, using(crate::proofs::ListLemmas::told), unfolding(script_rules::specs::Effects::effect))]
 
-ghost use Rattle.std.specs.Prelude.{◌≡◌, Ok, Some, None, IfOk, IfErr};
+ghost use Rattle.std.specs.Prelude.{◌≡◌, ℕ, Ok, Some, None, IfOk, IfErr};
 ghost use Rattle.script_rules.specs.Objects.{get};
 ghost use Rattle.arena_vec.specs.Vecs.{IsVecIn, vec_list};
 ghost use Rattle.arena_script.specs.Kinds.{short};
-ghost use Rattle.arena_script.specs.Things.{AreThings};
+ghost use Rattle.arena_chunks.specs.Source.{View};
+ghost use Rattle.arena_script.specs.Things.{Things, AreThings, IsThingIn};
 ghost use Rattle.arena_script.specs.Acts.{Acts};
 
 use crate::act::{Act, found, number_or_nothing};
@@ -22,12 +23,8 @@ use std::alloc::Global;
 const MOST_ITEMS: u32 = 536_870_912;
 
 #[inline(never)]
-pub(crate) fn make_list<C: ChunkSource>(
-    _a: &Allocator<C>,
-    things: &Names<Thing>,
-    name: u32,
-) -> Grown<Act>
-    ensures { Acts (Command.MakeList name) things.now _a.now _a.now result }
+pub(crate) fn make_list(things: &Names<Thing>, name: u32) -> Grown<Act>
+    ensures { (a : View) → Acts (Command.MakeList name) things.now a a result }
 {
     if things.get(name).is_some() {
         return Ok(Act::Tells(ScriptReply::NameTaken));
@@ -49,7 +46,7 @@ pub(crate) fn push<C: ChunkSource>(
     growth_costs();
     // Provides that the least alignment is 1.
     a.known();
-    let mut list = found!(list_of(things, name));
+    let mut list = found!(list_of(things, name), else return);
     if list.len() >= MOST_ITEMS {
         return Ok(Act::Tells(ScriptReply::CapacityOverflow));
     }
@@ -71,7 +68,7 @@ pub(crate) fn insert<C: ChunkSource>(
     growth_rule();
     growth_costs();
     a.known();
-    let mut list = found!(list_of(things, name));
+    let mut list = found!(list_of(things, name), else return);
     if at > list.len() {
         return Ok(Act::Tells(ScriptReply::OutOfRange));
     }
@@ -87,7 +84,7 @@ pub(crate) fn pop<C: ChunkSource>(a: &Allocator<C>, things: &Names<Thing>, name:
     requires { AreThings a.now.memory things.now }
     ensures { Acts (Command.Pop name) things.now a.now a.now result }
 {
-    let mut list = found!(list_of(things, name));
+    let mut list = found!(list_of(things, name), else return);
     let last = list.pop(a);
     Ok(Act::Gives(name, Thing::List(list), number_or_nothing(last)))
 }
@@ -102,7 +99,7 @@ pub(crate) fn remove<C: ChunkSource>(
     requires { AreThings a.old.memory things.now }
     ensures { Acts (Command.Remove name at) things.now a.old a.new result }
 {
-    let mut list = found!(list_of(things, name));
+    let mut list = found!(list_of(things, name), else return);
     if at >= list.len() {
         return Ok(Act::Tells(ScriptReply::OutOfRange));
     }
@@ -120,7 +117,7 @@ pub(crate) fn at<C: ChunkSource>(
     requires { AreThings a.now.memory things.now }
     ensures { Acts (Command.At name at) things.now a.now a.now result }
 {
-    let list = found!(list_of(things, name));
+    let list = found!(list_of(things, name), else return);
     if at >= list.len() {
         return Ok(Act::Tells(ScriptReply::OutOfRange));
     }
@@ -138,7 +135,7 @@ pub(crate) fn put<C: ChunkSource>(
     requires { AreThings a.old.memory things.now }
     ensures { Acts (Command.Put name at value) things.now a.old a.new result }
 {
-    let mut list = found!(list_of(things, name));
+    let mut list = found!(list_of(things, name), else return);
     if at >= list.len() {
         return Ok(Act::Tells(ScriptReply::OutOfRange));
     }
@@ -147,16 +144,10 @@ pub(crate) fn put<C: ChunkSource>(
 }
 
 #[inline(never)]
-pub(crate) fn truncate<C: ChunkSource>(
-    _a: &Allocator<C>,
-    things: &Names<Thing>,
-    name: u32,
-    len: u32,
-) -> Grown<Act>
-    requires { AreThings _a.now.memory things.now }
-    ensures { Acts (Command.Truncate name len) things.now _a.now _a.now result }
+pub(crate) fn truncate(things: &Names<Thing>, name: u32, len: u32) -> Grown<Act>
+    ensures { (a : View) → AreThings a.memory things.now → Acts (Command.Truncate name len) things.now a a result }
 {
-    let mut list = found!(list_of(things, name));
+    let mut list = found!(list_of(things, name), else return);
     list.truncate(len);
     Ok(Act::Gives(name, Thing::List(list), ScriptReply::Done))
 }
@@ -183,17 +174,10 @@ pub(crate) fn numbers_of<C: ChunkSource>(
 // Copies the list of a name to another that holds nothing. A split at the start returns a list of all its numbers, in a
 // block of its own, and leaves the old block unchanged.
 #[inline(never)]
-pub(crate) fn copied<C: ChunkSource>(
-    a: &mut Allocator<C>,
-    things: &Names<Thing>,
-    name: u32,
-    other: u32,
-    list: Vec<u32>,
-) -> Grown<Act>
-    requires things { AreThings a.old.memory things.now }
-    requires found { get things.now name ≡ Some (Thing.List list) }
-    requires none { get things.now other ≡ None }
-    ensures { Acts (Command.CopyTo name other) things.now a.old a.new result }
+pub(crate) fn copied<C: ChunkSource>(a: &mut Allocator<C>, other: u32, list: Vec<u32>) -> Grown<Act>
+    requires { IsThingIn a.old.memory (Thing.List list) }
+    ensures { (things : Things) (name : ℕ) → AreThings a.old.memory things → get things name ≡ Some (Thing.List list)
+        → get things other ≡ None → Acts (Command.CopyTo name other) things a.old a.new result }
 {
     growth_rule();
     a.known();

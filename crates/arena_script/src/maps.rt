@@ -1,13 +1,14 @@
 // Commands on maps.
 #![tactic(auto, using(crate::proofs::PairFacts::get_pair), unfolding(script_rules::specs::Effects::effect))]
 
-ghost use Rattle.std.specs.Prelude.{◌≡◌, [], ◌∷◌, IfOk, IfErr, ◌<◌, ◌≤◌, Ok, Some, None, false, IsTrue};
+ghost use Rattle.std.specs.Prelude.{◌≡◌, ℕ, [], ◌∷◌, IfOk, IfErr, ◌<◌, ◌≤◌, Ok, Some, None, false, IsTrue};
 ghost use Rattle.arena_hash.specs.Finite.{has};
 ghost use Rattle.arena_hash.specs.Maps.{map_in};
 ghost use Rattle.script_rules.specs.Objects.{get, most_pairs};
 ghost use Rattle.arena_script.specs.Kinds.{pairs};
 ghost use Rattle.std.specs.List.{flat_map};
-ghost use Rattle.arena_script.specs.Things.{AreThings, IsPairsIn, content, pairs_of};
+ghost use Rattle.arena_chunks.specs.Source.{View};
+ghost use Rattle.arena_script.specs.Things.{Things, AreThings, IsPairsIn, content, pairs_of, IsThingIn};
 ghost use Rattle.arena_script.specs.Acts.{Acts};
 
 use crate::act::{Act, found, number_or_nothing};
@@ -22,12 +23,8 @@ use script_rules::{Command, Names, Numbers, ScriptReply};
 use std::alloc::Global;
 
 #[inline(never)]
-pub(crate) fn make_map<C: ChunkSource>(
-    _a: &Allocator<C>,
-    things: &Names<Thing>,
-    name: u32,
-) -> Grown<Act>
-    ensures { Acts (Command.MakeMap name) things.now _a.now _a.now result }
+pub(crate) fn make_map(things: &Names<Thing>, name: u32) -> Grown<Act>
+    ensures { (a : View) → Acts (Command.MakeMap name) things.now a a result }
 {
     if things.get(name).is_some() {
         return Ok(Act::Tells(ScriptReply::NameTaken));
@@ -61,7 +58,7 @@ pub(crate) fn unbind<C: ChunkSource>(
     requires { AreThings a.old.memory things.now }
     ensures { Acts (Command.Unbind name key) things.now a.old a.new result }
 {
-    let mut map = found!(map_of(things, name));
+    let mut map = found!(map_of(things, name), else return);
     let old = map.remove(a, key);
     Ok(Act::Gives(name, Thing::Map(map), number_or_nothing(old)))
 }
@@ -87,7 +84,7 @@ pub(crate) fn bind<C: ChunkSource>(
     ensures { Acts (Command.Bind name key value) things.now a.old a.new result }
 {
     a.known();
-    let mut map = found!(map_of(things, name));
+    let mut map = found!(map_of(things, name), else return);
     if has_no_room(a, map, key) {
         return Ok(Act::Tells(ScriptReply::CapacityOverflow));
     }
@@ -99,15 +96,12 @@ pub(crate) fn bind<C: ChunkSource>(
 #[inline(never)]
 pub(crate) fn copied<C: ChunkSource>(
     a: &mut Allocator<C>,
-    things: &Names<Thing>,
-    name: u32,
     other: u32,
     map: HashMap<u32, u32>,
 ) -> Grown<Act>
-    requires things { AreThings a.old.memory things.now }
-    requires found { get things.now name ≡ Some (Thing.Map map) }
-    requires none { get things.now other ≡ None }
-    ensures { Acts (Command.CopyTo name other) things.now a.old a.new result }
+    requires { IsThingIn a.old.memory (Thing.Map map) }
+    ensures { (things : Things) (name : ℕ) → AreThings a.old.memory things → get things name ≡ Some (Thing.Map map)
+        → get things other ≡ None → Acts (Command.CopyTo name other) things a.old a.new result }
 {
     bytes_law::<u32, u32, FxHasher>();
     lengths_law::<u32, u32, FxHasher>();

@@ -1,12 +1,13 @@
 // Commands on texts.
 #![tactic(auto, unfolding(script_rules::specs::Effects::effect))]
 
-ghost use Rattle.std.specs.Prelude.{◌≡◌, Ok, Some, None, IfOk, IfErr};
+ghost use Rattle.std.specs.Prelude.{◌≡◌, ℕ, Ok, Some, None, IfOk, IfErr};
 ghost use Rattle.script_rules.specs.Objects.{get};
 ghost use Rattle.arena_text.specs.Builders.{IsBuilderIn, builder_bytes};
 ghost use Rattle.std.specs.List.{list_any};
 ghost use Rattle.script_rules.specs.Effects as effects;
-ghost use Rattle.arena_script.specs.Things.{AreThings, IsWordsIn};
+ghost use Rattle.arena_chunks.specs.Source.{View};
+ghost use Rattle.arena_script.specs.Things.{Things, AreThings, IsWordsIn, IsThingIn};
 ghost use Rattle.arena_script.specs.Acts.{Acts};
 
 use crate::act::{Act, found};
@@ -37,12 +38,8 @@ fn has_other(bytes: &[u8]) -> bool
 }
 
 #[inline(never)]
-pub(crate) fn make_text<C: ChunkSource>(
-    _a: &Allocator<C>,
-    things: &Names<Thing>,
-    name: u32,
-) -> Grown<Act>
-    ensures { Acts (Command.MakeText name) things.now _a.now _a.now result }
+pub(crate) fn make_text(things: &Names<Thing>, name: u32) -> Grown<Act>
+    ensures { (a : View) → Acts (Command.MakeText name) things.now a a result }
 {
     if things.get(name).is_some() {
         return Ok(Act::Tells(ScriptReply::NameTaken));
@@ -67,7 +64,7 @@ pub(crate) fn append<C: ChunkSource>(
     length_rule();
     growth_rule();
     a.known();
-    let mut text = found!(text_of(things, name));
+    let mut text = found!(text_of(things, name), else return);
     if has_other(bytes) {
         return Ok(Act::Tells(ScriptReply::NotAscii));
     }
@@ -104,7 +101,7 @@ pub(crate) fn front<C: ChunkSource>(
     length_rule();
     growth_rule();
     a.known();
-    let mut text = found!(text_of(things, name));
+    let mut text = found!(text_of(things, name), else return);
     if has_other(&[byte]) {
         return Ok(Act::Tells(ScriptReply::NotAscii));
     }
@@ -132,15 +129,12 @@ pub(crate) fn bytes_of<C: ChunkSource>(
 #[inline(never)]
 pub(crate) fn copied<C: ChunkSource>(
     a: &mut Allocator<C>,
-    things: &Names<Thing>,
-    name: u32,
     other: u32,
     text: StringBuilder,
 ) -> Grown<Act>
-    requires things { AreThings a.old.memory things.now }
-    requires found { get things.now name ≡ Some (Thing.Text text) }
-    requires none { get things.now other ≡ None }
-    ensures { Acts (Command.CopyTo name other) things.now a.old a.new result }
+    requires { IsThingIn a.old.memory (Thing.Text text) }
+    ensures { (things : Things) (name : ℕ) → AreThings a.old.memory things → get things name ≡ Some (Thing.Text text)
+        → get things other ≡ None → Acts (Command.CopyTo name other) things a.old a.new result }
 {
     length_rule();
     a.known();

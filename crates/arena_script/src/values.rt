@@ -1,9 +1,9 @@
 // Commands on values.
 #![tactic(auto, unfolding(script_rules::specs::Effects::effect))]
 
-ghost use Rattle.std.specs.Prelude.{◌≡◌, Ok, Some, None};
+ghost use Rattle.std.specs.Prelude.{◌≡◌, ℕ, Ok, Some, None};
 ghost use Rattle.script_rules.specs.Objects.{get};
-ghost use Rattle.arena_script.specs.Things.{AreThings};
+ghost use Rattle.arena_script.specs.Things.{Things, AreThings, IsThingIn};
 ghost use Rattle.arena_script.specs.Acts.{Acts};
 
 use crate::act::{Act, found};
@@ -54,7 +54,7 @@ pub(crate) fn store<C: ChunkSource>(
     requires { AreThings a.old.memory things.now }
     ensures { Acts (Command.Store name new) things.now a.old a.new result }
 {
-    let value = found!(value_of(things, name));
+    let value = found!(value_of(things, name), else return);
     value.set(a, new);
     Ok(Act::Gives(name, Thing::Value(value), ScriptReply::Done))
 }
@@ -63,15 +63,12 @@ pub(crate) fn store<C: ChunkSource>(
 #[inline(never)]
 pub(crate) fn copied<C: ChunkSource>(
     a: &mut Allocator<C>,
-    things: &Names<Thing>,
-    name: u32,
     other: u32,
     value: Box<u64>,
 ) -> Grown<Act>
-    requires things { AreThings a.old.memory things.now }
-    requires found { get things.now name ≡ Some (Thing.Value value) }
-    requires none { get things.now other ≡ None }
-    ensures { Acts (Command.CopyTo name other) things.now a.old a.new result }
+    requires { IsThingIn a.old.memory (Thing.Value value) }
+    ensures { (things : Things) (name : ℕ) → AreThings a.old.memory things → get things name ≡ Some (Thing.Value value)
+        → get things other ≡ None → Acts (Command.CopyTo name other) things a.old a.new result }
 {
     a.known();
     let content = value.get(a);

@@ -3,6 +3,7 @@
 
 ghost use Rattle.std.specs.Prelude.{◌≡◌, Ok, IfOk, IfErr};
 ghost use Rattle.script_rules.specs.Effects as effects;
+ghost use Rattle.arena_chunks.specs.Source.{View};
 ghost use Rattle.arena_script.specs.Things.{AreThings, IsThingIn, object_in};
 ghost use Rattle.arena_script.specs.Acts.{Acts};
 
@@ -16,12 +17,8 @@ use script_rules::{Command, Names, ScriptReply};
 use std::alloc::Global;
 
 #[inline(never)]
-pub(crate) fn drop_name<C: ChunkSource>(
-    _a: &Allocator<C>,
-    things: &Names<Thing>,
-    name: u32,
-) -> Grown<Act>
-    ensures { Acts (Command.DropName name) things.now _a.now _a.now result }
+pub(crate) fn drop_name(things: &Names<Thing>, name: u32) -> Grown<Act>
+    ensures { (a : View) → Acts (Command.DropName name) things.now a a result }
 {
     match things.get(name) {
         None => Ok(Act::Tells(ScriptReply::NoSuchName)),
@@ -30,9 +27,8 @@ pub(crate) fn drop_name<C: ChunkSource>(
 }
 
 #[inline(never)]
-pub(crate) fn len<C: ChunkSource>(_a: &Allocator<C>, things: &Names<Thing>, name: u32) -> Grown<Act>
-    requires { AreThings _a.now.memory things.now }
-    ensures { Acts (Command.Len name) things.now _a.now _a.now result }
+pub(crate) fn len(things: &Names<Thing>, name: u32) -> Grown<Act>
+    ensures { (a : View) → AreThings a.memory things.now → Acts (Command.Len name) things.now a a result }
 {
     length_rule();
     match things.get(name) {
@@ -94,10 +90,10 @@ pub(crate) fn copy<C: ChunkSource>(
         return Ok(Act::Tells(ScriptReply::NameTaken));
     }
     match thing {
-        Thing::Value(value) => values::copied(a, things, name, other, value),
-        Thing::List(list) => lists::copied(a, things, name, other, list),
-        Thing::Text(text) => texts::copied(a, things, name, other, text),
-        Thing::Bits(set) => bits::copied(a, things, name, other, set),
-        Thing::Map(map) => maps::copied(a, things, name, other, map),
+        Thing::Value(value) => values::copied(a, other, value),
+        Thing::List(list) => lists::copied(a, other, list),
+        Thing::Text(text) => texts::copied(a, other, text),
+        Thing::Bits(set) => bits::copied(a, other, set),
+        Thing::Map(map) => maps::copied(a, other, map),
     }
 }

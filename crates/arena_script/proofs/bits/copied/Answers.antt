@@ -6,14 +6,14 @@ use Rattle.arena_script.proofs.BitActs.{made_gives, made_gives_nothing}
 use Rattle.arena_script.proofs.bits.copied.Goals as goal
 
 pub returns-in_err-copy : goal.returns-in_err-copy
-returns-in_err-copy g c =
-    let h = holds c.requires.things c.args.name c.requires.found in
+returns-in_err-copy g c = λ things name are found none.
+    let h = holds are name found in
     not_given c.from_residual.result c.from_residual.ensures.1
-    (made_gives_nothing refl c.requires.none h.held.small c.known.ensures.state (copy_given h c.args.other c.requires.none)
+    (made_gives_nothing refl none h.held.small c.known.ensures.state (copy_given h c.args.other none)
     (copy_asks h c.args.other) c.in_err-copy.ensures)
 
 pub returns : goal.returns
-returns g c =
-    let h = holds c.requires.things c.args.name c.requires.found in
-    made_gives refl c.requires.none h.held.small c.known.ensures.state (copy_given h c.args.other c.requires.none)
+returns g c = λ things name are found none.
+    let h = holds are name found in
+    made_gives refl none h.held.small c.known.ensures.state (copy_given h c.args.other none)
     (copy_asks h c.args.other) c.in_ok-copy.ensures

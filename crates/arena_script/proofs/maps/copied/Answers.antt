@@ -9,13 +9,13 @@ clone_within-requires-clause-small g c = (omega arith, omega arith, tt, tt)
 
 pub clone_within-requires-clause-held : goal.clone_within-requires-clause-held
 clone_within-requires-clause-held g c =
-    map_ready c.args.a.now.memory c.args.map (holds c.requires.things c.args.name c.requires.found).held.held
+    map_ready c.args.a.now.memory c.args.map c.requires.held
 
 pub returns-in_err-copy : goal.returns-in_err-copy
-returns-in_err-copy g c = not_given c.from_residual.result c.from_residual.ensures.1
-    (map_copy_gives_nothing _ _ _ (holds c.requires.things c.args.name c.requires.found) c.requires.none c.known.ensures.state
+returns-in_err-copy g c = λ things name are found none. not_given c.from_residual.result c.from_residual.ensures.1
+    (map_copy_gives_nothing _ _ _ (holds are name found) none c.known.ensures.state
     c.bytes_law.ensures.table c.lengths_law.ensures c.in_err-copy.ensures)
 
 pub returns : goal.returns
-returns g c = map_copy_gives _ _ _ (holds c.requires.things c.args.name c.requires.found) c.requires.none c.known.ensures.state
+returns g c = λ things name are found none. map_copy_gives _ _ _ (holds are name found) none c.known.ensures.state
     c.bytes_law.ensures.table c.lengths_law.ensures c.in_ok-copy.ensures
