@@ -12,7 +12,7 @@ ghost use Rattle.arena_script.specs.Things.{Things, AreThings, IsPairsIn, conten
 ghost use Rattle.arena_script.specs.Acts.{Acts};
 
 use crate::act::{Act, found, number_or_nothing};
-use crate::in_order::by_keys;
+use crate::in_order::{by_keys, listed};
 use crate::kinds::map_of;
 use crate::thing::Thing;
 use arena_chunks::{Allocator, ChunkSource};
@@ -120,5 +120,5 @@ pub(crate) fn numbers_of<C: ChunkSource>(
     ensures numbers { IfOk result (λ all. all ≡ flat_map (λ e. e.0 ∷ e.1 ∷ []) (pairs_of (map_in pairs a.now.memory map))) }
     ensures exhausted { IfErr result (λ e. e ≡ AllocError.OutOfMemory) }
 {
-    by_keys(alloc, a, map)?.listed(alloc)
+    listed(alloc, &by_keys(alloc, a, map)?)
 }
