@@ -31,7 +31,7 @@ impl From<AllocError> for ParseErr {
 }
 
 // The indices of the trees that wait for their sign.
-type Waiting = ArrayVec<u32, 64>;
+pub(crate) type Waiting = ArrayVec<u32, 64>;
 
 // Takes the last two operands from the stack.
 fn operands(stack: &mut Waiting) -> Result<(u32, u32), ParseErr>
