@@ -26,7 +26,7 @@ def plain(code):
     code = COMMENT.sub("", code)
     code = re.sub(r"\b(pub|abbrev|unfoldable) ", "", code)
     code = re.sub(r"[\s;]", "", code)
-    code = re.sub(r"<[CD]:ChunkSource(,D:ChunkSource)?,?>|[CD]:ChunkSource,|,[CD]:ChunkSource(?=,?>)", "", code)
+    code = re.sub(r"<[CD]:ChunkSource(,D:ChunkSource)?,?>|(,[CD]:ChunkSource)+(?=,?>)|[CD]:ChunkSource,", "", code)
     return code.replace(",)", ")").replace(",>", ">")
 
 

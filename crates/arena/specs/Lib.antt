@@ -119,6 +119,8 @@ pub use Rattle.arena_store.specs.declared.block.Block as BlockType
 pub use Rattle.arena_store.specs.declared.block.ArenaErr as ArenaErrType
 pub use Rattle.arena_chunks.specs.declared.allocator.text.Str as StrType
 pub use Rattle.arena_items.specs.declared.item.Item as ItemTrait
+pub use Rattle.arena_items.specs.declared.values.InArena as InArenaTrait
+pub use Rattle.arena_items.specs.declared.beside.Beside as BesideType
 pub use Rattle.arena_items.specs.declared.boxes.Box as BoxType
 pub use Rattle.arena_items.specs.declared.slices.BoxSlice as BoxSliceType
 pub use Rattle.arena_items.specs.declared.placing.ItemErr as ItemErrType

@@ -7,7 +7,10 @@
 pub mod laws;
 
 pub use arena_ast as trees;
-pub use arena_ast::{Ast, ByParts, Linked, Listed, Parts, Scoped, copy_nodes, list_operands};
+pub use arena_ast::{
+    Ast, ByParts, Linked, Listed, Parts, Scoped, bind, bound, copy_nodes, list_operands,
+    new_listed, new_scoped,
+};
 pub use arena_bits as bits;
 pub use arena_bits::BitSet;
 pub use arena_chunks as blocks;

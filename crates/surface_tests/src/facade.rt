@@ -7,7 +7,7 @@ ghost use Rattle.arena.specs.Vecs.{IsVecIn, vec_list};
 use arena::laws::items::frame_law;
 use arena::{
     Allocator, Ast, Box, ByParts, ChunkSource, Grown, Item, Linked, Listed, OutOfMemory, Parts,
-    Vec, list_operands,
+    Plain, Scoped, Vec, bind, bound, copy_nodes, list_operands, new_listed, new_scoped,
 };
 use arena_threads::pools::{ChunkMaker, PoolName};
 use arena_threads::{AllocatorGuard, AllocatorPool};
@@ -43,6 +43,23 @@ fn trees<T: Parts + Linked, C: ChunkSource>(
     let _: Ast<ByParts<T>> = Ast::new_in();
     let _: Grown<u32> = tree.first.add(a, node);
     let _: Grown<(u32, u32)> = list_operands(a, tree, operands);
+    let _: Listed<ByParts<T>> = new_listed();
+}
+
+fn names<T: Parts + Linked, C: ChunkSource>(a: &mut Allocator<C>, tree: &mut Scoped<ByParts<T>>) {
+    return;
+    let _: Scoped<ByParts<T>> = new_scoped();
+    let _: Grown<bool> = bind(a, tree, "x", 0);
+    let _: Option<u32> = bound(a, tree, "x");
+}
+
+fn copies<T: Item + Linked + Plain, C: ChunkSource>(
+    from: &Allocator<C>,
+    to: &mut Allocator<C>,
+    nodes: &Vec<T>,
+) {
+    return;
+    let _: Grown<Vec<T>> = copy_nodes(nodes, from, to);
 }
 
 fn parts<T: Parts>(form: T::Form) -> T::Form {
