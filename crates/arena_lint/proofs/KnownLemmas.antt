@@ -1,7 +1,7 @@
 -- The handles of a walk, as calls change them.
 use Rattle.std.proofs.lemmas.Bool.Decides.{nat_tests}
-use Rattle.std.proofs.Common.{◌≡◌, ℕ, ◌<◌, List, [], ◌∷◌, length, arith, Ok, true, Bool, is_some}
-use Rattle.std.specs.Prelude.{Result}
+use Rattle.std.proofs.Common.{◌≡◌, ℕ, ◌<◌, List, [], ◌∷◌, length, arith, Ok, Err, true, Bool, is_some}
+use Rattle.std.specs.Prelude.{Result, OnOk}
 use Rattle.arena_chunks.specs.Memory.{Memory}
 use Rattle.arena_chunks.specs.Source.{View}
 use Rattle.arena_items.specs.declared.room.AllocError.{AllocError}
@@ -60,10 +60,11 @@ pub begun : {old new : View} {k : Known} {d : Scopes} {result : Result (Unit {0}
     → Enters entry_item old new k.scopes d result → Moves old.memory new.memory k (record k { scopes = d })
 begun {d = d} held enters = (scopes_moved held d enters.held enters.frame).0
 
-pub begun_knows : {old new : View} {k : Known} {d : Scopes} {x : Unit {0}} (sets : List NameSet) → AreNames old.memory k
-    → Enters entry_item old new k.scopes d (Ok x) → Knows old.memory k sets
-    → Knows new.memory (record k { scopes = d }) ([] ∷ sets) × IsNotEmpty sets
-begun_knows {old} {new} {k} {d} sets held enters knows =
+pub begun_knows : {old new : View} {k : Known} {d : Scopes} (result : Result (Unit {0}) AllocError) (sets : List NameSet)
+    → AreNames old.memory k → Enters entry_item old new k.scopes d result → Knows old.memory k sets
+    → OnOk result (Knows new.memory (record k { scopes = d }) ([] ∷ sets) × IsNotEmpty sets)
+begun_knows (Err e) sets held enters knows = tt
+begun_knows {old} {new} {k} {d} (Ok x) sets held enters knows =
     let texts = names_in old.memory k.symbols in
     let scopes = scopes_in entry_item old.memory k.scopes in
     let more : AreScopes texts ([] ∷ sets) ([] ∷ scopes) = (no_names texts, knows) in (

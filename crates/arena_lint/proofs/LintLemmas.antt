@@ -2,19 +2,14 @@
 use Rattle.std.proofs.lemmas.Bool.Decides.{nat_tests}
 use Rattle.std.proofs.Common.{◌≡◌, ℕ, ◌+◌, ◌^◌, ◌≤◌, List, [], ◌∷◌, length, refl, ap, inl, inr, true, false, Bool, Ok, Err, Some, None, arith}
 use Rattle.std.specs.Prelude.{◌⊎◌, Option, IfNone}
-use Rattle.arena_rules.specs.State.{used_bytes}
 use Rattle.arena_rules.proofs.AskingLemmas.{asks_more}
 use Rattle.arena_chunks.specs.Memory.{Memory}
 use Rattle.arena_chunks.specs.Source.{View}
-use Rattle.arena_chunks.specs.Frame.{AreAllApart}
-use Rattle.arena_store.specs.declared.block.Block.{Block}
 use Rattle.arena_chunks.specs.Asking.{IsStarved, IsFull}
-use Rattle.arena_chunks.proofs.Layers.{all_of_both}
 use Rattle.arena_items.specs.Costs.{used}
 use Rattle.arena_items.specs.declared.room.AllocError.{AllocError}
 use Rattle.arena_items.specs.declared.room.AllocError.TheVariants as alloc
-use Rattle.arena_vec.specs.Vecs.{vec_list}
-use Rattle.arena_symbols.specs.Named.{AreNames, AreNewNames, all_blocks, all_credit}
+use Rattle.arena_symbols.specs.Named.{AreNames, AreNewNames, all_credit}
 use Rattle.arena_symbols.specs.Names.{names_in}
 use Rattle.arena_symbols.specs.Scoping.{pair_count}
 use Rattle.arena_symbols.specs.Tables.{entry_item, scopes_in}
@@ -24,15 +19,11 @@ use Rattle.tree_rules.specs.Report.{findings_of}
 use Rattle.tree_rules.specs.Trees.{Stmts}
 use Rattle.tree_rules.specs.Refusals.{TreeOf}
 use Rattle.tree_rules.specs.Weights.{weights}
-use Rattle.arena_tree.specs.Given.{IsTreeIn, Means}
 use Rattle.arena_tree.specs.Asking.{ProgramRan}
 use Rattle.arena_tree.specs.Parsing.{ParsesInOnePass, TakesAtMost, IsProgramText, parse_bytes}
-use Rattle.arena_tree.specs.StmtsAt.{stmts_blocks}
-use Rattle.arena_tree.specs.TreesAt.{node_item}
 use Rattle.arena_tree.specs.declared.tree.Tree.{Tree}
 use Rattle.arena_tree.specs.declared.tree.TreeErr.{TreeErr}
 use Rattle.arena_tree.specs.declared.tree.TreeErr.TheVariants as tree
-use Rattle.arena_tree.proofs.Layers.{nodes_used, one_stmts}
 use Rattle.tree_rules.specs.declared.finding.Finding.{Finding}
 use Rattle.lint_reports.specs.Taking.{Taking}
 use Rattle.lint_reports.specs.Reports.{Reports, said}
@@ -40,7 +31,6 @@ use Rattle.lint_reports.specs.declared.report.FileReport.{FileReport}
 use Rattle.lint_reports.specs.declared.report.FileReport.TheVariants.{Checked, Full, Refused, OutOfMemory}
 use Rattle.arena_lint.specs.Knowing.{Knows}
 use Rattle.arena_lint.specs.Linting.{Lints, Checks, StopsInTree, StopsInWalk, PlacesTree, WalksOver, lint_bytes, no_place, unparsed_by}
-use Rattle.arena_lint.specs.Rooms.{ListHasStmts, IsLight}
 use Rattle.arena_lint.specs.Spending.{Spends, Takes, numbers_in, walk_bytes}
 use Rattle.arena_lint.specs.Stopping.{WalksFrom}
 use Rattle.arena_lint.proofs.KnowLemmas.{no_names}
@@ -48,63 +38,35 @@ use Rattle.arena_lint.proofs.SpendingLemmas.{spends_then, spends_nothing}
 
 -- ---- Nothing
 
--- Handles that place nothing: they know no name, in any arena, and are apart from all blocks.
+-- Handles that place nothing: they know no name, in any arena.
 pub record IsNothing (k : Known) : Type 0 where
   pub known : (m : Memory) → AreNames m k
   pub knows : (m : Memory) → Knows m k ([] ∷ [])
   pub names : (m : Memory) → names_in m k.symbols ≡ []
   pub scopes : (m : Memory) → scopes_in entry_item m k.scopes ≡ [] ∷ []
   pub credit : all_credit k ≡ 0
-  pub apart : (m : Memory) (blocks : List Block) → AreAllApart blocks (all_blocks m k)
 
 pub nothing_known : {k : Known} → AreNewNames k → IsNothing k
-nothing_known {k} new = grind (arith, nat_tests, no_names, all_turned, all_of_both)
+nothing_known {k} new = grind (arith, nat_tests, no_names, all_turned)
 
--- ---- A tree
-
-pub tree_room : {m : Memory} {t : Tree} {k : Known} → IsLight m t → IsNothing k
-    → ListHasStmts m t.stmts (used_bytes m.state) (all_blocks m k)
-tree_room {m} {t} is none = let given = is.tree in record {
-  held = given.held;
-  apart = none.apart m (t.stmts.raw.block ∷ []);
-  have = record {
-    stmts = given.trees;
-    stand = given.means;
-    good = given.plain;
-    light = is.light;
-    few = omega (arith, nodes_used given.trees m t.stmts given.held given.means given.lists);
-    apart = none.apart m (stmts_blocks given.trees m (vec_list node_item m t.stmts));
-  };
-}
-
--- The tree that is given is the one that it means.
-given_is : {m : Memory} {t : Tree} (given : IsTreeIn m t) (trees : Stmts) → Means m t trees → given.trees ≡ trees
-given_is {m} {t} given trees means = one_stmts given.trees trees m (vec_list node_item m t.stmts) given.means means
+-- ---- A walk over all of a text
 
 -- A text has at least as many bytes as its tree's weight.
 abbrev AreLight : Type 0
 AreLight = (bytes : List ℕ) (ss : Stmts) → TreeOf bytes (Ok ss) → weights ss ≤ length bytes
 
-pub parsed_light : (bytes : List ℕ) (old new : View) {t : Tree} → AreLight → length bytes ≤ 2 ^ 24 → ParsesInOnePass bytes old new (Ok t)
-    → IsTreeIn new.memory t → IsLight new.memory t
-parsed_light bytes old new light small parsed given = record {
-  tree = given;
-  light = omega (arith, ap weights (given_is given parsed.0 parsed.2.stand), light bytes parsed.0 parsed.1, small);
-}
-
--- A walk from nothing spends what the tree's statements take.
-pub nothing_spends : {old new : View} {t : Tree} {k l : Known} {error : Option AllocError} (trees : Stmts) → IsLight old.memory t
-    → IsNothing k → Means old.memory t trees → Takes (weights trees) old new k l error
+-- A walk from nothing spends what the statements take.
+pub nothing_spends : {old new : View} {k l : Known} {error : Option AllocError} {bytes : List ℕ} (trees : Stmts) → AreLight
+    → length bytes ≤ 2 ^ 24 → IsNothing k → TreeOf bytes (Ok trees) → Takes (weights trees) old new k l error
     → Spends (walk_bytes (weights trees)) 0 0 old new error
-nothing_spends {old} {k = k} trees is none means takes =
+nothing_spends {old} {k = k} {bytes = bytes} trees light small none is takes =
     let one : numbers_in old.memory k ≡ 1 = omega (
       arith,
       ap (λ (l : List (List ℕ)). length l) (none.names old.memory),
       ap (λ (l : List (List (ℕ × ℕ))). pair_count l + length l) (none.scopes old.memory),
     ) in
-    spends_then (spends_nothing {bytes = 0} tt)
-    (takes.spends (omega (arith, one, is.light, ap weights (given_is is.tree trees means)))) (omega (arith, none.credit))
-    (omega (arith, none.credit))
+    spends_then (spends_nothing {bytes = 0} tt) (takes.spends (omega (arith, one, small, light bytes trees is)))
+    (omega (arith, none.credit)) (omega (arith, none.credit))
 
 -- ---- What is spent
 
@@ -139,33 +101,32 @@ module _ {bytes : List ℕ} {old new : View} {error : Option AllocError} (unused
       (λ still. let full = short.full still in record { still = full.still; short = omega (arith, full.short) })
   unparsed why parsed takes = grind (arith, nat_tests, lints)
 
--- What a walk over a tree spends.
-abbrev Walks : View → View → Tree → Option AllocError → Type 0
-Walks old new t error = (trees : Stmts) → Means old.memory t trees
-    → Spends (walk_bytes (weights trees)) 0 0 old new error
+-- What a walk over a text spends.
+abbrev Walks : List ℕ → View → View → Option AllocError → Type 0
+Walks bytes old new error = (trees : Stmts) → TreeOf bytes (Ok trees) → Spends (walk_bytes (weights trees)) 0 0 old new error
 
 -- and what it asks for
-abbrev Asks : View → View → Tree → Option AllocError → Type 0
-Asks old new t error = (trees : Stmts) → Means old.memory t trees → WalksFrom trees old new error
+abbrev Asks : List ℕ → View → View → Option AllocError → Type 0
+Asks bytes old new error = (trees : Stmts) → TreeOf bytes (Ok trees) → WalksFrom trees old new error
 
 placed : {bytes : List ℕ} {old mid : View} {t : Tree} (parsed : ParsesInOnePass bytes old mid (Ok t))
     → ProgramRan bytes old mid → TakesAtMost (parse_bytes (length bytes)) old mid → PlacesTree bytes parsed.0 old mid
 placed parsed ran takes = record { tree = parsed.1; ran = ran; takes = takes.takes }
 
 -- A program that was walked over.
-module _ {bytes : List ℕ} {old mid new : View} (t : Tree) (light : AreLight) (unused : used old ≡ 0)
+module _ {bytes : List ℕ} {old mid new : View} {t : Tree} (light : AreLight) (unused : used old ≡ 0)
     (parsed : ParsesInOnePass bytes old mid (Ok t)) (takes : TakesAtMost (parse_bytes (length bytes)) old mid) where
-  all_spends : {error : Option AllocError} → Walks mid new t error
+  all_spends : {error : Option AllocError} → Walks bytes mid new error
       → Spends (lint_bytes (length bytes)) 0 0 old new error
   all_spends walks = let few = light bytes parsed.0 parsed.1 in
-      spends_then (parse_spends {all = parse_bytes (length bytes)} (omega arith) takes) (walks parsed.0 parsed.2.stand)
+      spends_then (parse_spends {all = parse_bytes (length bytes)} (omega arith) takes) (walks parsed.0 parsed.1)
       (omega (arith, few)) (omega (arith, few))
 
   pub checked : {F : Type 0} (taking : Taking F) {first found : F} → ProgramRan bytes old mid
-      → ((trees : Stmts) → Means mid.memory t trees → taking.gains first found (findings_of trees)) → Walks mid new t None
-      → Asks mid new t None → Checks taking bytes old new first found
+      → ((trees : Stmts) → TreeOf bytes (Ok trees) → taking.gains first found (findings_of trees)) → Walks bytes mid new None
+      → Asks bytes mid new None → Checks taking bytes old new first found
   checked taking ran gained walks asks =
-      let from = asks parsed.0 parsed.2.stand in
+      let from = asks parsed.0 parsed.1 in
       let over : WalksOver bytes old new = record {
         trees = parsed.0;
         mid = mid;
@@ -175,13 +136,17 @@ module _ {bytes : List ℕ} {old mid new : View} (t : Tree) (light : AreLight) (
         none = from.none;
         did = from.goes.did refl;
       } in
-      grind (arith, nat_tests, lints, all_spends, over)
+      record {
+        findings = findings_of parsed.0;
+        gained = gained parsed.0 parsed.1;
+        lints = grind (arith, nat_tests, lints, all_spends, over);
+      }
 
-  pub unplaced : (k : ℕ) → ProgramRan bytes old mid → Walks mid new t (Some (alloc.AllocErr k))
-      → Asks mid new t (Some (alloc.AllocErr k)) → Lints bytes old new (no_place new.memory.state.is_growing)
+  pub unplaced : (k : ℕ) → ProgramRan bytes old mid → Walks bytes mid new (Some (alloc.AllocErr k))
+      → Asks bytes mid new (Some (alloc.AllocErr k)) → Lints bytes old new (no_place new.memory.state.is_growing)
   unplaced k ran walks asks =
       let spent = all_spends walks in
-      let from = asks parsed.0 parsed.2.stand in
+      let from = asks parsed.0 parsed.1 in
       lints_unplaced unused spent new.memory.state.is_growing refl (parsed.0, parsed.1)
       (inr (record {
         trees = parsed.0;
@@ -195,8 +160,8 @@ module _ {bytes : List ℕ} {old mid new : View} (t : Tree) (light : AreLight) (
       (λ growing. record { growing = growing; cause = grind (arith, spent.starved growing k refl) })
       (λ still. let short = spent.full still k refl in record { still = still; short = omega (arith, short.short) })
 
-  pub exhausted : Walks mid new t (Some alloc.OutOfMemory) → Lints bytes old new OutOfMemory
+  pub exhausted : Walks bytes mid new (Some alloc.OutOfMemory) → Lints bytes old new OutOfMemory
   exhausted walks = grind (arith, nat_tests, lints, all_spends)
 
-  pub fits : Walks mid new t (Some alloc.CapacityOverflow) → ⊥
+  pub fits : Walks bytes mid new (Some alloc.CapacityOverflow) → ⊥
   fits walks = (all_spends walks).fits refl

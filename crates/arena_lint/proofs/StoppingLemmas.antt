@@ -24,10 +24,7 @@ use Rattle.arena_symbols.specs.declared.names.Names.{Names as Known}
 use Rattle.arena_symbols.proofs.Layers.{texts_moved, scopes_moved}
 use Rattle.tree_rules.specs.Trees.{Stmt, Let, Show, Stmts, NoStmts, Then}
 use Rattle.tree_rules.specs.Trees as tree
-use Rattle.tree_nodes.specs.declared.node.Kind.TheVariants as kind
-use Rattle.tree_nodes.specs.declared.node.Node.{Node}
 use Rattle.arena_tree.specs.Spending.{error_of}
-use Rattle.arena_tree.specs.StmtsAt.{StmtAt}
 use Rattle.arena_lint.specs.Spending.{IsExhausted}
 use Rattle.arena_lint.specs.Stopping.{with_id, DoesName, BeginsBlock, EndsBlock, Does, DoesAll, StopsAtName, StopsAtBlock, StopsAt, StopsIn, Goes, GoesOn}
 
@@ -201,15 +198,6 @@ module _ {old mid : View} {k l : Known} {s : Stmt} {ss : Stmts} (is : s ≡ tree
       did = λ none. (mid, l, begun.did refl, new, j, goes.did refl, ends);
       stopped = λ n never. absurd (cc);
     })
-
--- ---- Statements that show
-
-pub show_goes : {a : View} {k : Known} {error : Option AllocError} (s : Stmt) (n : Node) → StmtAt s a.memory n → (n.kind ≡ kind.Let → ⊥)
-    → (n.kind ≡ kind.Block → ⊥) → IsExhausted error → Goes (Does s) (StopsAt s) a a k k error
-show_goes (Let name e) n at no-let no-block exhausted = absurd (no-let at.0)
-show_goes (tree.Block body) n at no-let no-block exhausted = absurd (no-block at.0)
-show_goes (Show e) n at no-let no-block exhausted =
-    goes_exhausted exhausted (record { did = λ none. (refl, refl); stopped = λ j never. absurd (cc) })
 
 -- ---- Some of the statements
 

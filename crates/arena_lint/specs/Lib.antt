@@ -1,5 +1,5 @@
 pub mod Knowing
-pub mod Rooms
+pub mod Ahead
 pub mod Spending
 pub mod Stopping
 pub mod Steps

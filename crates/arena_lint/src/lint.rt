@@ -1,15 +1,15 @@
 // The report of one text.
-ghost use Rattle.std.specs.Prelude.{◌≡◌, ◌+◌, ◌*◌, ◌^◌, ◌≤◌, [], length, IfOk, IfErr, OnOk};
+ghost use Rattle.std.specs.Prelude.{◌≡◌, ◌+◌, ◌*◌, ◌^◌, ◌≤◌, [], length, Ok, IfOk, IfErr, OnOk};
 ghost use Rattle.arena_items.specs.Costs.{used};
-ghost use Rattle.arena_tree.specs.Given.{Means};
 ghost use Rattle.arena_tree.specs.Spending.{error_of};
 ghost use Rattle.lint_reports.specs.Reports.{report_text};
+ghost use Rattle.arena_tree.specs.Parsing.{IsProgramText};
+ghost use Rattle.tree_rules.specs.Refusals.{TreeOf};
 ghost use Rattle.tree_rules.specs.Report.{findings_of};
 ghost use Rattle.tree_rules.specs.Trees.{Stmts};
 ghost use Rattle.tree_rules.specs.Weights.{weights};
 ghost use Rattle.arena_lint.specs.All.{IsTextOf};
 ghost use Rattle.arena_lint.specs.Linting.{Lints, Checks, no_place, unparsed_by};
-ghost use Rattle.arena_lint.specs.Rooms.{IsLight};
 ghost use Rattle.arena_lint.specs.Spending.{Spends, walk_bytes};
 ghost use Rattle.arena_lint.specs.Stopping.{WalksFrom};
 
@@ -21,7 +21,7 @@ use arena_symbols::Names;
 use arena_tree::{Tree, TreeErr};
 use lint_reports::{FileReport, Findings, TakesFindings, put_report};
 use std::alloc::Global;
-use tree_rules::laws::tree_weight;
+use tree_rules::laws::{tree_weight, well_formed};
 
 // The report where a block had no place.
 fn no_place<C: ChunkSource>(a: &Allocator<C>) -> FileReport
@@ -47,23 +47,25 @@ fn unparsed<C: ChunkSource>(a: &Allocator<C>, why: TreeErr) -> FileReport
     }
 }
 
-// Gives the findings in a tree to what takes them.
+// Gives the findings in the text of a program to what takes them.
 fn give_findings<C: ChunkSource, F: TakesFindings>(
     alloc: Global,
     a: &mut Allocator<C>,
-    tree: Tree,
+    src: &[u8],
     found: &mut F,
-) -> Grown<()>
-    requires { IsLight a.old.memory tree }
-    ensures gains { (trees : Stmts) → Means a.old.memory tree trees
+) -> Grown<usize>
+    requires small { length src.now ≤ 2 ^ 24 }
+    requires program { IsProgramText src.now }
+    ensures gains { (trees : Stmts) → TreeOf src.now (Ok trees)
         → OnOk result (F.taking.gains found.old found.new (findings_of trees)) }
-    ensures spends { (trees : Stmts) → Means a.old.memory tree trees
+    ensures spends { (trees : Stmts) → TreeOf src.now (Ok trees)
         → Spends (walk_bytes (weights trees)) 0 0 a.old a.new (error_of result) }
-    ensures asks { (trees : Stmts) → Means a.old.memory tree trees → WalksFrom trees a.old a.new (error_of result) }
+    ensures asks { (trees : Stmts) → TreeOf src.now (Ok trees) → WalksFrom trees a.old a.new (error_of result) }
 {
-    let room = a.used_bytes();
+    tree_weight();
+    well_formed();
     let mut known = Names::new_in();
-    walk(alloc, a, &mut known, tree.stmts, room, found)
+    walk(alloc, a, &mut known, src, 0, found)
 }
 
 // Gives the findings in a text to what takes them. Returns its report where that isn't `Checked`: what was given then
@@ -80,12 +82,12 @@ fn lint_with<C: ChunkSource, F: TakesFindings>(
     ensures other { IfErr result (Lints src.now a.old a.new) }
 {
     tree_weight();
-    let tree = match Tree::parse_in_one_pass(a, src) {
-        Ok(tree) => tree,
-        Err(why) => return Err(unparsed(a, why)),
-    };
-    match give_findings(alloc, a, tree, found) {
-        Ok(()) => Ok(()),
+    if let Err(why) = Tree::parse_in_one_pass(a, src) {
+        return Err(unparsed(a, why));
+    }
+    // The names are read in the text, which has far fewer bytes than the tree.
+    match give_findings(alloc, a, src, found) {
+        Ok(_) => Ok(()),
         Err(AllocError::AllocErr { .. }) => Err(no_place(a)),
         Err(AllocError::OutOfMemory) => Err(FileReport::OutOfMemory),
         // A walk never needs more numbers than there are.

@@ -1,39 +1,26 @@
 // Statements, one after another.
-ghost use Rattle.std.specs.Prelude.{◌≡◌, ◌≢◌, ◌+◌, ◌-◌, ◌^◌, ◌<◌, ◌≤◌, ◌∷◌, length, List, Some, None, Ok, IfOk, OnOk, slice_get, if◌then◌else◌};
+ghost use Rattle.std.specs.Prelude.{◌≡◌, ◌+◌, ◌^◌, ◌<◌, ◌≤◌, ◌∷◌, [], length, drop, List, Some, None, Ok, IfOk, OnOk, if◌then◌else◌};
 ghost use Rattle.std.specs.Str.{IsUtf8};
-ghost use Rattle.arena_items.specs.Values.{IsTextIn, text_bytes};
-ghost use Rattle.arena_vec.specs.Vecs.{vec_list};
-ghost use Rattle.arena_symbols.specs.Named.{AreNames, Moves, all_blocks};
-ghost use Rattle.arena_tree.specs.TreesAt.{node_item};
+ghost use Rattle.arena_symbols.specs.Named.{AreNames, Moves};
+ghost use Rattle.arena_tree.specs.Parts.{spelled_at};
 ghost use Rattle.arena_tree.specs.Spending.{error_of};
-ghost use Rattle.arena_tree.specs.StmtsAt.{StmtAt, StmtsAt};
-ghost use Rattle.tree_rules.specs.Report.{NameSet, undefined, defined, walk_stmt, walk};
-ghost use Rattle.tree_rules.specs.Trees.{Stmt, Stmts};
+ghost use Rattle.tree_reader.specs.Seen.{IsNext};
+ghost use Rattle.tree_rules.specs.Grammar.{line_tree};
+ghost use Rattle.tree_rules.specs.Report.{NameSet, defined, walk_stmt, walk};
 ghost use Rattle.tree_rules.specs.Weights.{weight, weights};
+ghost use Rattle.arena_lint.specs.Ahead.{LineAhead, LinesAhead, line_trees};
 ghost use Rattle.arena_lint.specs.Knowing.{Knows, found_of};
-ghost use Rattle.arena_lint.specs.Rooms.{ListHasExprs, AreNamed, HasStmt, ListHasStmts, stmt_names};
 ghost use Rattle.arena_lint.specs.Spending.{Takes, IsExhausted};
 ghost use Rattle.arena_lint.specs.Stopping.{DoesName, BeginsBlock, EndsBlock, Does, DoesAll, StopsAtName, StopsAtBlock, StopsAt, StopsIn, Goes};
-ghost use Rattle.arena_lint.specs.Steps.{Finds, Enters, IsNotEmpty};
+ghost use Rattle.arena_lint.specs.Steps.{Finds, IsNotEmpty};
 
-use crate::names::{Known, all_names};
-use arena_chunks::{Allocator, ChunkSource, Str};
-use arena_items::{AllocError, Grown};
-use arena_rules::OutOfMemory;
-use arena_tree::{Kind, Node, kids};
-use arena_vec::Vec;
+use crate::names::{Known, exhausted, use_names};
+use arena_chunks::{Allocator, ChunkSource};
+use arena_items::Grown;
 use lint_reports::{FindKind, TakesFindings};
-use short_bytes::Bytes;
 use std::alloc::Global;
 use std::str;
-
-// Out of memory outside the arena.
-fn exhausted(r: Result<(), OutOfMemory>) -> Grown<()>
-    ensures same { IfOk result (λ x. r ≡ Ok x) }
-    ensures exhausted { IsExhausted (error_of result) }
-{
-    r.map_err(|_| AllocError::OutOfMemory)
-}
+use tree_reader::{Lexeme, Seen, next};
 
 // Defines a name. Returns what is found of it, if anything.
 fn define_name<C: ChunkSource>(
@@ -86,106 +73,71 @@ fn give<F: TakesFindings>(
     }
 }
 
-// Walks over a definition in the tree.
+// Walks over the name of a definition.
 fn define<C: ChunkSource, F: TakesFindings>(
     alloc: Global,
     a: &mut Allocator<C>,
     known: &mut Known,
-    text: Str,
+    name: &[u8],
     found: &mut F,
 ) -> Grown<()>
     requires known { AreNames a.old.memory known.old }
-    requires held { IsTextIn a.old.memory text }
-    requires utf8 { IsUtf8 (text_bytes a.old.memory text) }
-    requires short { length (text_bytes a.old.memory text) < 2 ^ 32 }
+    requires utf8 { IsUtf8 name.now }
+    requires short { length name.now < 2 ^ 32 }
     ensures moves { Moves a.old.memory a.new.memory known.old known.new }
-    ensures finds { Finds F.taking a.old.memory a.new.memory known.old known.new found.old found.new result
-        (defined (text_bytes a.old.memory text)) }
-    ensures takes { Takes (1 + length (text_bytes a.old.memory text)) a.old a.new known.old known.new (error_of result) }
-    ensures goes { Goes (DoesName (text_bytes a.old.memory text)) (StopsAtName (text_bytes a.old.memory text)) a.old a.new
-        known.old known.new (error_of result) }
+    ensures finds { Finds F.taking a.old.memory a.new.memory known.old known.new found.old found.new result (defined name.now) }
+    ensures takes { Takes (1 + length name.now) a.old a.new known.old known.new (error_of result) }
+    ensures goes { Goes (DoesName name.now) (StopsAtName name.now) a.old a.new known.old known.new (error_of result) }
 {
-    let name = match Bytes::of(alloc, a.read(text.block)) {
-        Ok(name) => name,
-        Err(_) => return Err(AllocError::OutOfMemory),
-    };
-    let spelled = unsafe { str::from_utf8_unchecked(name.as_slice()) };
+    let spelled = unsafe { str::from_utf8_unchecked(name) };
     let kind = define_name(a, known, spelled)?;
-    give(alloc, found, kind, name.as_slice())
+    give(alloc, found, kind, name)
 }
 
-// Uses the names of a statement that is no block.
-fn use_names<C: ChunkSource, F: TakesFindings>(
-    alloc: Global,
-    a: &Allocator<C>,
-    known: &Known,
-    node: Node,
-    room: u64,
-    found: &mut F,
-) -> Grown<()>
-    requires known { AreNames a.now.memory known.now }
-    requires tree { HasStmt a.now.memory node room (all_blocks a.now.memory known.now) }
-    requires kind { node.kind ≢ Kind.Block }
-    ensures finds { (s : Stmt) (sets : List NameSet) → StmtAt s a.now.memory node → Knows a.now.memory known.now sets
-        → OnOk result (F.taking.gains found.old found.new (undefined sets (stmt_names s))) }
-    ensures exhausted { IsExhausted (error_of result) }
-{
-    let list = stmt_kids(a, known, node, room);
-    exhausted(all_names(alloc, a, known, list, room, found))
-}
-
-// The list of the expression of a statement that is no block.
-fn stmt_kids<C: ChunkSource>(a: &Allocator<C>, _known: &Known, node: Node, _room: u64) -> Vec<Node>
-    requires tree { HasStmt a.now.memory node _room (all_blocks a.now.memory _known.now) }
-    requires kind { node.kind ≢ Kind.Block }
-    ensures trees { ListHasExprs a.now.memory result _room }
-    ensures names { (s : Stmt) → StmtAt s a.now.memory node
-        → AreNamed a.now.memory (vec_list node_item a.now.memory result) (stmt_names s) }
-{
-    kids(a, node)
-}
-
+// Walks over a definition. Returns the byte after it, as the next functions do.
 fn let_line<C: ChunkSource, F: TakesFindings>(
     alloc: Global,
     a: &mut Allocator<C>,
     known: &mut Known,
-    node: Node,
-    room: u64,
+    src: &[u8],
+    at: usize,
+    l: Lexeme,
     found: &mut F,
-) -> Grown<()>
+) -> Grown<usize>
     requires known { AreNames a.old.memory known.old }
-    requires tree { HasStmt a.old.memory node room (all_blocks a.old.memory known.old) }
-    requires kind { node.kind ≡ Kind.Let }
+    requires small { length src.now ≤ 2 ^ 24 }
+    requires line { LineAhead src.now at }
+    requires next { IsNext src.now at l }
+    requires key { l.seen ≡ Seen.LetKey }
     ensures moves { Moves a.old.memory a.new.memory known.old known.new }
-    ensures finds { (s : Stmt) → StmtAt s a.old.memory node
-        → Finds F.taking a.old.memory a.new.memory known.old known.new found.old found.new result (walk_stmt s) }
-    ensures takes { (s : Stmt) → StmtAt s a.old.memory node
-        → Takes (weight s) a.old a.new known.old known.new (error_of result) }
-    ensures goes { (s : Stmt) → StmtAt s a.old.memory node
-        → Goes (Does s) (StopsAt s) a.old a.new known.old known.new (error_of result) }
+    ensures finds { (t : LineAhead src.now at)
+        → Finds F.taking a.old.memory a.new.memory known.old known.new found.old found.new result (walk_stmt (line_tree t.line)) }
+    ensures takes { (t : LineAhead src.now at)
+        → Takes (weight (line_tree t.line)) a.old a.new known.old known.new (error_of result) }
+    ensures goes { (t : LineAhead src.now at)
+        → Goes (Does (line_tree t.line)) (StopsAt (line_tree t.line)) a.old a.new known.old known.new (error_of result) }
+    ensures behind { (t : LineAhead src.now at) → IfOk result (λ end. spelled_at src.now end ≡ t.behind) }
+    ensures later { IfOk result (λ end. at < end) }
+    ensures within { IfOk result (λ end. end ≤ length src.now) }
 {
-    use_names(alloc, a, known, node, room, found)?;
-    define(alloc, a, known, node.text, found)
+    let Some(name) = next(src, l.end) else {
+        unreachable!()
+    };
+    let end = use_names(alloc, a, known, src, name.end, found)?;
+    define(alloc, a, known, &src[name.at..name.end], found)?;
+    Ok(end)
 }
 
-// Begins a block. Returns the list of its statements.
-fn enter_block<C: ChunkSource>(
-    a: &mut Allocator<C>,
-    known: &mut Known,
-    node: Node,
-    _room: u64,
-) -> Grown<Vec<Node>>
-    requires known { AreNames a.old.memory known.old }
-    requires tree { HasStmt a.old.memory node _room (all_blocks a.old.memory known.old) }
-    requires kind { node.kind ≡ Kind.Block }
+// Begins a block.
+fn enter_block<C: ChunkSource>(a: &mut Allocator<C>, known: &mut Known) -> Grown<()>
+    requires { AreNames a.old.memory known.old }
     ensures moves { Moves a.old.memory a.new.memory known.old known.new }
-    ensures tree { IfOk result (λ list. ListHasStmts a.new.memory list _room (all_blocks a.new.memory known.new)) }
-    ensures enters { IfOk result (Enters a.old.memory a.new.memory known.old known.new node) }
+    ensures knows { (sets : List NameSet) → Knows a.old.memory known.old sets
+        → OnOk result (Knows a.new.memory known.new ([] ∷ sets) × IsNotEmpty sets) }
     ensures takes { Takes 1 a.old a.new known.old known.new (error_of result) }
     ensures goes { Goes BeginsBlock StopsAtBlock a.old a.new known.old known.new (error_of result) }
 {
-    known.scopes.enter(a)?;
-    Ok(kids(a, node))
+    known.scopes.enter(a)
 }
 
 // Ends a block.
@@ -200,76 +152,77 @@ fn leave_block<C: ChunkSource>(a: &mut Allocator<C>, known: &mut Known)
     known.scopes.leave(a);
 }
 
-// A statement of a list.
-fn stmt<C: ChunkSource>(
-    a: &Allocator<C>,
-    _known: &Known,
-    list: Vec<Node>,
-    i: u32,
-    _room: u64,
-) -> Node
-    requires trees { ListHasStmts a.now.memory list _room (all_blocks a.now.memory _known.now) }
-    requires index { i < list.raw.len }
-    ensures tree { HasStmt a.now.memory result (_room - 1) (all_blocks a.now.memory _known.now) }
-    ensures room { 1 ≤ _room }
-    ensures stmt { slice_get (vec_list node_item a.now.memory list) i ≡ Some result }
-{
-    list.get(a, i)
-}
-
+// Walks over a statement, of which the first token was read.
 #[cycle(walk)]
-fn walk_stmt<C: ChunkSource, F: TakesFindings>(
+fn walk_line<C: ChunkSource, F: TakesFindings>(
     alloc: Global,
     a: &mut Allocator<C>,
     known: &mut Known,
-    node: Node,
-    room: u64,
+    src: &[u8],
+    at: usize,
+    l: Lexeme,
     found: &mut F,
-) -> Grown<()>
+) -> Grown<usize>
     requires known { AreNames a.old.memory known.old }
-    requires tree { HasStmt a.old.memory node room (all_blocks a.old.memory known.old) }
+    requires small { length src.now ≤ 2 ^ 24 }
+    requires line { LineAhead src.now at }
+    requires next { IsNext src.now at l }
     ensures moves { Moves a.old.memory a.new.memory known.old known.new }
-    ensures finds { (s : Stmt) → StmtAt s a.old.memory node
-        → Finds F.taking a.old.memory a.new.memory known.old known.new found.old found.new result (walk_stmt s) }
-    ensures takes { (s : Stmt) → StmtAt s a.old.memory node
-        → Takes (weight s) a.old a.new known.old known.new (error_of result) }
-    ensures goes { (s : Stmt) → StmtAt s a.old.memory node
-        → Goes (Does s) (StopsAt s) a.old a.new known.old known.new (error_of result) }
+    ensures finds { (t : LineAhead src.now at)
+        → Finds F.taking a.old.memory a.new.memory known.old known.new found.old found.new result (walk_stmt (line_tree t.line)) }
+    ensures takes { (t : LineAhead src.now at)
+        → Takes (weight (line_tree t.line)) a.old a.new known.old known.new (error_of result) }
+    ensures goes { (t : LineAhead src.now at)
+        → Goes (Does (line_tree t.line)) (StopsAt (line_tree t.line)) a.old a.new known.old known.new (error_of result) }
+    ensures behind { (t : LineAhead src.now at) → IfOk result (λ end. spelled_at src.now end ≡ t.behind) }
+    ensures later { IfOk result (λ end. at < end) }
+    ensures within { IfOk result (λ end. end ≤ length src.now) }
 {
-    match node.kind {
-        Kind::Let => let_line(alloc, a, known, node, room, found),
-        Kind::Block => {
-            let list = enter_block(a, known, node, room)?;
-            walk(alloc, a, known, list, room, found)?;
+    match l.seen {
+        Seen::LetKey => let_line(alloc, a, known, src, at, l, found),
+        Seen::LeftBrace => {
+            enter_block(a, known)?;
+            let end = walk(alloc, a, known, src, l.end, found)?;
             leave_block(a, known);
-            Ok(())
+            Ok(end)
         }
-        _ => use_names(alloc, a, known, node, room, found),
+        _ => use_names(alloc, a, known, src, at, found),
     }
 }
 
+// Walks over all statements of a block, up to the brace that ends it and that one, or over all of a text.
 #[cycle(walk)]
 pub(crate) fn walk<C: ChunkSource, F: TakesFindings>(
     alloc: Global,
     a: &mut Allocator<C>,
     known: &mut Known,
-    list: Vec<Node>,
-    room: u64,
+    src: &[u8],
+    at: usize,
     found: &mut F,
-) -> Grown<()>
+) -> Grown<usize>
     requires known { AreNames a.old.memory known.old }
-    requires trees { ListHasStmts a.old.memory list room (all_blocks a.old.memory known.old) }
+    requires small { length src.now ≤ 2 ^ 24 }
+    requires start { at ≤ length src.now }
+    requires lines { LinesAhead src.now at }
     ensures moves { Moves a.old.memory a.new.memory known.old known.new }
-    ensures finds { (ss : Stmts) → StmtsAt ss a.old.memory (vec_list node_item a.old.memory list)
-        → Finds F.taking a.old.memory a.new.memory known.old known.new found.old found.new result (walk ss) }
-    ensures takes { (ss : Stmts) → StmtsAt ss a.old.memory (vec_list node_item a.old.memory list)
-        → Takes (weights ss) a.old a.new known.old known.new (error_of result) }
-    ensures goes { (ss : Stmts) → StmtsAt ss a.old.memory (vec_list node_item a.old.memory list)
-        → Goes (DoesAll ss) (StopsIn ss) a.old a.new known.old known.new (error_of result) }
+    ensures finds { (t : LinesAhead src.now at)
+        → Finds F.taking a.old.memory a.new.memory known.old known.new found.old found.new result (walk (line_trees t.lines)) }
+    ensures takes { (t : LinesAhead src.now at)
+        → Takes (weights (line_trees t.lines)) a.old a.new known.old known.new (error_of result) }
+    ensures goes { (t : LinesAhead src.now at)
+        → Goes (DoesAll (line_trees t.lines)) (StopsIn (line_trees t.lines)) a.old a.new known.old known.new (error_of result) }
+    ensures behind { (t : LinesAhead src.now at) → IfOk result (λ end. spelled_at src.now end ≡ drop 1 t.behind) }
+    ensures later { IfOk result (λ end. at ≤ end) }
+    ensures within { IfOk result (λ end. end ≤ length src.now) }
 {
-    'stmts: for i in 0..list.len() {
-        let node = stmt(a, known, list, i, room);
-        walk_stmt(alloc, a, known, node, room - 1, found)?;
+    let mut here = at;
+    'lines: loop {
+        let Some(l) = next(src, here) else {
+            return Ok(here);
+        };
+        if let Seen::RightBrace = l.seen {
+            return Ok(l.end);
+        }
+        here = walk_line(alloc, a, known, src, here, l, found)?;
     }
-    Ok(())
 }

@@ -4,7 +4,7 @@ use Rattle.arena_lint.proofs.SpendingLemmas.{spends_nothing}
 use Rattle.arena_lint.proofs.lint.without_findings.Goals as goal
 
 pub returns-in-Ok : goal.returns-in-Ok
-returns-in-Ok g c = exhausted c.in-Ok.field-0 c.tree_weight.ensures c.requires.unused c.in-Ok.ensures.parses c.in-Ok.ensures.bytes
+returns-in-Ok g c = exhausted c.tree_weight.ensures c.requires.unused c.in-Ok.ensures.parses c.in-Ok.ensures.bytes
     (λ trees means. spends_nothing refl)
 
 pub returns-in-Err : goal.returns-in-Err

@@ -1,31 +1,50 @@
-use Rattle.std.proofs.Common.{Some}
-use Rattle.tree_nodes.specs.declared.node.Kind.TheVariants as kind
-use Rattle.arena_tree.proofs.Layers.{line_seen}
+use Rattle.std.proofs.Common.{Some, arith}
+use Rattle.std.proofs.lemmas.Bool.Decides.{nat_tests}
+use Rattle.tree_rules.proofs.NameLemmas.{name_text}
 use Rattle.arena_lint.proofs.SpendingLemmas.{err_takes, takes_exhausted}
 use Rattle.arena_lint.proofs.StoppingLemmas.{err_goes, goes_out}
-use Rattle.arena_lint.proofs.StatementLemmas.{let_name, let_finds}
+use Rattle.arena_lint.proofs.StatementLemmas.{name_comes, let_read}
+use Rattle.arena_lint.proofs.WalkLemmas.{let_finds, let_takes, let_goes}
 use Rattle.arena_lint.proofs.walk.let_line.Goals as goal
 
+pub unreachable-requires : goal.unreachable-requires
+unreachable-requires g c = name_comes c.requires.line c.requires.next c.requires.key c.in_default.ensures.none
+
+pub use_names-requires-clause-names : goal.use_names-requires-clause-names
+use_names-requires-clause-names g c = (let_read c.requires.line c.requires.next c.requires.key c.in-Some.ensures.some).names
+
 pub define-requires : goal.define-requires
-define-requires g c = let name = let_name c.requires.tree c.requires.kind in
-    record { known = c.requires.known; held = name.0; utf8 = name.1; short = name.2 }
+define-requires g c = let r = let_read c.requires.line c.requires.next c.requires.key c.in-Some.ensures.some in
+    record { known = c.requires.known; utf8 = name_text _ r.plain; short = grind (arith, nat_tests) }
+
+pub returns-in_err-end-clause-takes : goal.returns-in_err-end-clause-takes
+returns-in_err-end-clause-takes g c t = err_takes c.from_residual.result c.from_residual.ensures
+    (takes_exhausted c.args.a.now c.args.known.now (Some _) c.in_err-end.ensures.exhausted)
+
+pub returns-in_err-end-clause-goes : goal.returns-in_err-end-clause-goes
+returns-in_err-end-clause-goes g c t =
+    err_goes c.from_residual.result c.from_residual.ensures (goes_out c.in_err-end.ensures.exhausted)
+
+pub returns-in_err-define-clause-takes : goal.returns-in_err-define-clause-takes
+returns-in_err-define-clause-takes g c t = err_takes c.from_residual-in_err-define.result c.from_residual-in_err-define.ensures
+    (let_takes (let_read t c.requires.next c.requires.key c.in-Some.ensures.some) c.in_err-define.ensures.takes)
+
+pub returns-in_err-define-clause-goes : goal.returns-in_err-define-clause-goes
+returns-in_err-define-clause-goes g c t = err_goes c.from_residual-in_err-define.result c.from_residual-in_err-define.ensures
+    (let_goes (let_read t c.requires.next c.requires.key c.in-Some.ensures.some) c.in_err-define.ensures.goes)
 
 pub returns-clause-finds : goal.returns-clause-finds
-returns-clause-finds g c s at =
-    let_finds g.F.TakesFindings.taking c.args.a.now.memory c.define.new.a.memory c.args.known.now c.define.new.known c.args.found.now
-    c.use_names.new.found c.define.new.found c.define.result s c.args.node at c.requires.kind
-    (λ sets knows. c.in_ok-use_names.ensures.finds s sets at knows) c.define.ensures.finds
-
-pub returns-in_err-use_names-clause-takes : goal.returns-in_err-use_names-clause-takes
-returns-in_err-use_names-clause-takes g c s at = err_takes c.from_residual.result c.from_residual.ensures
-    (takes_exhausted c.args.a.now c.args.known.now (Some _) c.in_err-use_names.ensures.exhausted)
+returns-clause-finds g c t =
+    let_finds g.F.TakesFindings.taking (let_read t c.requires.next c.requires.key c.in-Some.ensures.some) c.args.a.now.memory
+    c.define.new.a.memory c.args.known.now c.define.new.known c.args.found.now c.use_names.new.found c.define.new.found
+    (λ u sets knows. c.in_ok-end.ensures.gains u sets knows) (λ sets knows. c.in_ok-define.ensures.finds sets knows)
 
 pub returns-clause-takes : goal.returns-clause-takes
-returns-clause-takes g c s at = rw (line_seen kind.Let c.args.a.now.memory c.args.node c.requires.kind s at).3 c.define.ensures.takes
-
-pub returns-in_err-use_names-clause-goes : goal.returns-in_err-use_names-clause-goes
-returns-in_err-use_names-clause-goes g c s at =
-    err_goes c.from_residual.result c.from_residual.ensures (goes_out c.in_err-use_names.ensures.exhausted)
+returns-clause-takes g c t = let_takes (let_read t c.requires.next c.requires.key c.in-Some.ensures.some) c.in_ok-define.ensures.takes
 
 pub returns-clause-goes : goal.returns-clause-goes
-returns-clause-goes g c s at = rw (line_seen kind.Let c.args.a.now.memory c.args.node c.requires.kind s at).3 c.define.ensures.goes
+returns-clause-goes g c t = let_goes (let_read t c.requires.next c.requires.key c.in-Some.ensures.some) c.in_ok-define.ensures.goes
+
+pub returns-clause-behind : goal.returns-clause-behind
+returns-clause-behind g c t = let r = let_read t c.requires.next c.requires.key c.in-Some.ensures.some in
+    rw (← r.last) (c.in_ok-end.ensures.behind r.names)
