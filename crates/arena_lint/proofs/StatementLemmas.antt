@@ -1,9 +1,8 @@
 -- Statements of a text, one by one.
 use Rattle.std.proofs.lemmas.Bool.Decides.{nat_tests}
-use Rattle.std.proofs.Common.{◌≡◌, ◌≢◌, ℕ, ◌+◌, ◌<◌, ◌≤◌, ◌^◌, List, [], ◌∷◌, ◌++◌, drop, length, refl, sym, ap, ◌∙◌, subst, arith, append-nil}
+use Rattle.std.proofs.Common.{◌≡◌, ◌≢◌, ℕ, List, [], ◌∷◌, ◌++◌, drop, refl, sym, ap, ◌∙◌, subst, arith, append-nil}
 use Rattle.std.specs.Prelude.{slice_range}
-use Rattle.std.specs.Str.{IsUtf8}
-use Rattle.tree_rules.specs.Tokens.{Token, LetKey, Word, Equals, Semicolon, LeftBrace, RightBrace, tokens, without_places}
+use Rattle.tree_rules.specs.Tokens.{Token, LetKey, Word, Equals, Semicolon, LeftBrace, RightBrace, without_places}
 use Rattle.tree_rules.specs.Grammar.{Terms, spell_terms, terms_tree, Line, LetLine, ShowLine, BlockLine, spell_line, line_tree, Program, Empty, Next, spell, trees_of}
 use Rattle.tree_rules.specs.Trees.{Expr, IsExpr, IsName, Stmt, Let, Show, Stmts, NoStmts, Then, with_stmt, IsStmt, AreStmts}
 use Rattle.tree_rules.specs.Trees as tree

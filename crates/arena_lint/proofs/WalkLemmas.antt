@@ -1,6 +1,6 @@
 -- Walks over statements.
 use Rattle.std.proofs.lemmas.Bool.Decides.{nat_tests}
-use Rattle.std.proofs.Common.{◌≡◌, ℕ, ◌+◌, ◌<◌, ◌≤◌, List, [], ◌∷◌, ◌++◌, drop, length, refl, sym, ◌∙◌, ap, subst, None, Some, Ok, Option, arith, append-nil}
+use Rattle.std.proofs.Common.{◌≡◌, ℕ, ◌+◌, ◌<◌, List, [], ◌∷◌, ◌++◌, drop, length, refl, sym, ◌∙◌, ap, subst, None, Some, Ok, Option, arith, append-nil}
 use Rattle.std.specs.Prelude.{slice_range, Result, OnOk}
 use Rattle.std.proofs.lemmas.Result.{on_ok_weaker}
 use Rattle.std.proofs.lemmas.List.{append_assoc}
@@ -12,7 +12,7 @@ use Rattle.arena_symbols.specs.Named.{AreNames, Moves, all_blocks}
 use Rattle.arena_symbols.specs.declared.names.Names.{Names as Known}
 use Rattle.arena_symbols.proofs.Layers.{moves_then}
 use Rattle.tree_rules.specs.Tokens.{Token, without_places}
-use Rattle.tree_rules.specs.Grammar.{Line, line_tree}
+use Rattle.tree_rules.specs.Grammar.{line_tree}
 use Rattle.tree_rules.specs.Trees.{Stmt, Stmts, NoStmts, Then, AreStmts}
 use Rattle.tree_rules.specs.Trees as tree
 use Rattle.tree_rules.specs.Weights.{weight, weights}
@@ -23,10 +23,10 @@ use Rattle.tree_reader.specs.declared.token.Seen.TheVariants as seen
 use Rattle.tree_reader.specs.declared.token.Lexeme.{Lexeme}
 use Rattle.arena_tree.specs.Parts.{spelled_at}
 use Rattle.lint_reports.specs.Taking.{Taking}
-use Rattle.arena_lint.specs.Ahead.{NamesAhead, LineAhead, spell_lines, line_trees, LinesAhead}
+use Rattle.arena_lint.specs.Ahead.{NamesAhead, LineAhead, line_trees, LinesAhead}
 use Rattle.arena_lint.specs.Knowing.{Knows}
 use Rattle.arena_lint.specs.Spending.{Takes, IsExhausted}
-use Rattle.arena_lint.specs.Steps.{Finds, Halfway, Behind, Walking, IsNotEmpty}
+use Rattle.arena_lint.specs.Steps.{Finds, Halfway, Walking, IsNotEmpty}
 use Rattle.arena_lint.proofs.SpendingLemmas.{takes_then, takes_more, takes_exhausted}
 use Rattle.arena_lint.specs.Stopping.{DoesName, StopsAtName, Does, DoesAll, StopsAt, StopsIn, Goes}
 use Rattle.arena_lint.proofs.StatementLemmas.{IsLetRead, IsShowRead, IsFirst, first_line, line_of, none_left, brace_left}

@@ -1,4 +1,3 @@
-use Rattle.std.proofs.lemmas.Bool.Decides.{nat_tests}
 use Rattle.std.proofs.Common.{arith}
 use Rattle.arena_lint.proofs.LintLemmas.{parse_spends, unparsed, checked, unplaced, exhausted, fits}
 use Rattle.arena_lint.proofs.lint.lint_with.Goals as goal
