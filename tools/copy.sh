@@ -1,6 +1,6 @@
 #!/bin/sh
-# Copies crates and all below them into a repository TO, by crates.txt: their sources and proofs, LICENSE and NOTICE, their
-# lines of crates.txt, and HANDLES, which allows none unless a copied crate uses threads. For example:
+# Copies crates and all below them into a repository TO, by crates.txt: their sources and proofs without mutants, LICENSE,
+# NOTICE with the commit, their lines of crates.txt, and HANDLES, which allows none unless a copied crate uses threads:
 #     tools/copy.sh arena example_parser ../tool
 set -eu
 top=$(dirname "$(dirname "$(readlink -f "$0")")")
@@ -24,8 +24,9 @@ for name in $names; do
     grep -q "^$name[: ]" "$1/crates.txt" || { echo "no crate $name" >&2; exit 1; }
 done
 sed 's/[: ].*//' "$1/crates.txt" | while read -r name; do
-    (cd "$top/crates" && find "$name" -path '*/out' -prune -o -type f -print | tar -cf - -T -) | tar -xf - -C "$1/crates"
+    (cd "$top/crates" && find "$name" \( -name out -o -name must-fail \) -prune -o -type f -print | tar -cf - -T -) | tar -xf - -C "$1/crates"
 done
 cp "$top/LICENSE" "$top/NOTICE" "$1"
+! commit=$(git -C "$top" rev-parse HEAD 2> /dev/null) || echo "Copied from commit $commit." >> "$1/NOTICE"
 echo 'Handles allowed: none.' > "$1/HANDLES"
 ! grep -q '^arena_pool[: ]' "$1/crates.txt" || cp "$top/HANDLES" "$1"
