@@ -1,5 +1,5 @@
-// Tests of gates: workers run at the same time, since the gate holds all scripts but the last until the last has
-// finished; and no more of them than were asked for, however long the gate holds their scripts.
+// A test of gates: workers run at the same time, since the gate holds all scripts but the last until the last has
+// finished.
 ghost use Rattle.std.specs.Prelude.{◌≡◌};
 ghost use Rattle.arena_pool.specs.Names.{IsBlankOf};
 
@@ -69,48 +69,6 @@ fn run_at_once<L: PoolName + Send + Sync>(
     }
     let seen = gate.seen.load(Ordering::SeqCst);
     holds(rt, seen == u64::from(gate.last), "the last script first");
-    Ok(())
-}
-
-/// Holds each script for a while, or until more scripts are run at once than there are workers.
-#[derive(Drop, Default)]
-struct AtMost {
-    workers: u64,
-    running: AtomicU64,
-    too_many: AtomicU64,
-}
-
-impl Gate for AtMost {
-    fn started(&self, _: u32) {
-        self.running.fetch_add(1, Ordering::SeqCst);
-        for _ in 0..1_000 {
-            if self.running.load(Ordering::SeqCst) > self.workers {
-                self.too_many.store(1, Ordering::SeqCst);
-            }
-            thread::yield_now();
-        }
-    }
-
-    fn finished(&self, _: u32) {
-        self.running.fetch_sub(1, Ordering::SeqCst);
-    }
-}
-
-#[test]
-fn no_more_workers_than_asked_for(rt: HostRuntime) -> Result<(), Fail> {
-    for workers in [1, 2, 3] {
-        let plan = (PoolKind::Standard, None, workers);
-        let pool = pool_of::<Brand>(&rt, plan, Blank::new(MOST_LENT));
-        let gate = AtMost {
-            workers: u64::from(workers),
-            ..Default::default()
-        };
-        let scripts = scripts(rt.alloc(), 12, 0)?;
-        let (all, _) = run_over(&rt, &pool, workers, &gate, &Engine, &scripts);
-        holds(&rt, all.len() == 12, "all scripts");
-        let too_many = gate.too_many.load(Ordering::SeqCst);
-        holds(&rt, too_many == 0, "at most as many at once");
-    }
     Ok(())
 }
 
