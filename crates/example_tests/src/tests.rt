@@ -22,6 +22,7 @@ const VALUES: &[(&str, &[u32], Option<u32>)] = &[
     ("x y +", &[1], None),
 ];
 
+#[tactic(auto, unfolding(arena_rules::specs::Rounding::up, arena_items::specs::Layout::second_at, arena_items::specs::Layout::pair_size))]
 fn has_value(rt: &impl Abort, alloc: Global, text: &str, names: &[u32], wanted: Option<u32>) {
     let mut first = ample(alloc);
     let mut other = ample(alloc);
